@@ -1,19 +1,17 @@
 -- What uses do to effects, computed, is what the rows of the table say.
 use Rattle.std.proofs.Common.{◌≡◌, refl, sym, ap, ◌∙◌, subst, ℕ, suc, ◌+◌, Bool, true, false, not, ◌&&◌, ◌||◌, true≢false, List, [], ◌∷◌, ◌++◌, length, Option, Some, None, arith}
 use Rattle.std.specs.Prelude.{if◌then◌else◌}
-use Rattle.std.proofs.lemmas.Bool.{not_from_false}
-use Rattle.spi_term.specs.Term.{Message, name, ends, checks, many, Effect, Process, check}
+use Rattle.std.proofs.lemmas.Bool.{not-true, not_from_false}
+use Rattle.spi_term.specs.Term.{name, ends, checks, many, Effect, Process, check}
 use Rattle.spi_term.specs.Names.{EffectAvoids}
-use Rattle.spi_term.proofs.Lists.{at_get}
 use Rattle.spi_effect.specs.Effect.{AllMany, Within}
 use Rattle.spi_effect.specs.Made.{are_many, minus, greater, mentions, is_within}
 use Rattle.spi_effect.proofs.Made.{minus_difference, greater_is, mentions_sound, mentions_complete, or_false, both_false, and_true, both_true, are_many_sound, are_many_complete, is_within_sound, is_within_complete}
 use Rattle.spi_effect.proofs.Laws.{sum_append}
 use Rattle.spi_rules.specs.Environment.{Env}
-use Rattle.spi_rules.specs.Processes.{IsNonce, nonce_name, nonce_cast}
 use Rattle.spi_rules.specs.Derivations.{RuleUse}
 use Rattle.spi_rules.specs.declared.rule.Rule.TheVariants.{ProcIn, ProcRepeat, ProcSplit, ProcSplitUn, ProcMatch, ProcMatchUn, ProcCase, ProcCaseUn, ProcDecrypt, ProcDecryptUn, ProcCheck, ProcCast, ProcCastUn, ProcNew}
-use Rattle.spi_message.specs.Tests.{nonce_of, nonce_in}
+use Rattle.spi_message.proofs.Deciding.{nonce_complete}
 use Rattle.spi_audit.specs.Fits.{Subject, of_message, of_process, plain, subsumed, Fits, fits_name, fits_unit, fits_unit_un, fits_pair, fits_pair_un, fits_inl, fits_inl_un, fits_inr, fits_inr_un, fits_enc, fits_enc_un, fits_hash, fits_stop, fits_out, fits_in, fits_repeat, fits_split, fits_split_un, fits_match, fits_match_un, fits_case, fits_case_un, fits_decrypt, fits_decrypt_un, fits_check, fits_check_un, fits_begin, fits_end, fits_end_many, fits_cast, fits_cast_un, fits_new, fits_par, fits_sub}
 use Rattle.spi_audit.specs.Paying.{GivesEffects, gives_message, gives_stop, gives_out, gives_in, gives_repeat, gives_split, gives_split_un, gives_match, gives_match_un, gives_case, gives_case_un, gives_decrypt, gives_decrypt_un, gives_check, gives_check_un, gives_begin, gives_end, gives_end_many, gives_cast, gives_cast_un, gives_new, gives_par, gives_sub, PaysByUse, pays_message, pays_stop, pays_out, pays_in, pays_repeat, pays_split, pays_split_un, pays_match, pays_match_un, pays_case, pays_case_un, pays_decrypt, pays_decrypt_un, pays_check, pays_check_un, pays_begin, pays_end, pays_end_many, pays_cast, pays_cast_un, pays_new, pays_par, pays_sub}
 use Rattle.spi_audit.specs.Audit.{Judged, judged_none, judged_use, AllPay, FirstUnpaid}
@@ -38,30 +36,26 @@ always p = record { to = λ e. p; no = λ e h. true≢false e }
 decided : (b : Bool) {P : Type 0} → (b ≡ true → P) → (P → b ≡ true) → Reflects b P
 decided b f g = record { to = f; no = λ e h. true≢false (sym (g h) ∙ e) }
 
-pub not_true : (b : Bool) → not b ≡ true → b ≡ false
-not_true true e = cc
-not_true false e = refl
-
 -- the name isn't in an effect
 avoided : (k : ℕ) (es : Effect) {P : Type 0} → (EffectAvoids k es → P) → (P → EffectAvoids k es) → Reflects (not (mentions k es)) P
-avoided k es f g = decided (not (mentions k es)) (λ e. f (mentions_sound k es (not_true (mentions k es) e))) (λ h. not_from_false (mentions k es) (mentions_complete k es (g h)))
+avoided k es f g = decided (not (mentions k es)) (λ e. f (mentions_sound k es (not-true (mentions k es) e))) (λ h. not_from_false (mentions k es) (mentions_complete k es (g h)))
 
 two_avoided : (k l : ℕ) (es : Effect) {P : Type 0} → (EffectAvoids k es → EffectAvoids l es → P) → (P → EffectAvoids k es) → (P → EffectAvoids l es) → Reflects (not (mentions k es || mentions l es)) P
 two_avoided k l es f g h =
     decided (not (mentions k es || mentions l es))
-    (λ e. let r = or_false (mentions k es) (mentions l es) (not_true (mentions k es || mentions l es) e) in f (mentions_sound k es r.0) (mentions_sound l es r.1))
+    (λ e. let r = or_false (mentions k es) (mentions l es) (not-true (mentions k es || mentions l es) e) in f (mentions_sound k es r.0) (mentions_sound l es r.1))
     (λ p. not_from_false (mentions k es || mentions l es) (both_false (mentions_complete k es (g p)) (mentions_complete l es (h p))))
 
 both_avoided : (k : ℕ) (es fs : Effect) {P : Type 0} → (EffectAvoids k es → EffectAvoids k fs → P) → (P → EffectAvoids k es) → (P → EffectAvoids k fs) → Reflects (not (mentions k es) && not (mentions k fs)) P
 both_avoided k es fs f g h =
     decided (not (mentions k es) && not (mentions k fs))
-    (λ e. let r = and_true (not (mentions k es)) (not (mentions k fs)) e in f (mentions_sound k es (not_true (mentions k es) r.0)) (mentions_sound k fs (not_true (mentions k fs) r.1)))
+    (λ e. let r = and_true (not (mentions k es)) (not (mentions k fs)) e in f (mentions_sound k es (not-true (mentions k es) r.0)) (mentions_sound k fs (not-true (mentions k fs) r.1)))
     (λ p. both_true (not_from_false (mentions k es) (mentions_complete k es (g p))) (not_from_false (mentions k fs) (mentions_complete k fs (h p))))
 
 served_avoided : (k : ℕ) (es : Effect) {P : Type 0} → (AllMany es → EffectAvoids k es → P) → (P → AllMany es) → (P → EffectAvoids k es) → Reflects (are_many es && not (mentions k es)) P
 served_avoided k es f g h =
     decided (are_many es && not (mentions k es))
-    (λ e. let r = and_true (are_many es) (not (mentions k es)) e in f (are_many_sound es r.0) (mentions_sound k es (not_true (mentions k es) r.1)))
+    (λ e. let r = and_true (are_many es) (not (mentions k es)) e in f (are_many_sound es r.0) (mentions_sound k es (not-true (mentions k es) r.1)))
     (λ p. both_true (are_many_complete es (g p)) (not_from_false (mentions k es) (mentions_complete k es (h p))))
 
 in_paid : {env : Env} {p : Process} {a es : Effect} → PaysByUse (plain ProcIn) (of_process env p) (a ∷ es ∷ []) → EffectAvoids (length env) es
@@ -132,10 +126,6 @@ pub record Stepped (u : RuleUse) (s : Subject) (ps ss : List Subject) (st : List
   pub gives : GivesEffects u s es e
   pub pays_is : Reflects (pays (change_of u s) st) (PaysByUse u s es)
 
-pub nonce_is : {env : Env} {m : Message} {fs : Effect} → IsNonce [] env m fs → nonce_of env m ≡ Some fs
-nonce_is (nonce_name a) = ap nonce_in (at_get a)
-nonce_is (nonce_cast i) = elim i [ ]
-
 stepped : {u : RuleUse} {s : Subject} {ps : List Subject} → Fits u s ps → (ss : List Subject) (st : List Effect) → Stepped u s ps ss st
 stepped (fits_name a q) ss st = record { es = []; e = []; rest = spread ss st; is = refl; many = refl; goes = refl; gives = gives_message; pays_is = always pays_message }
 stepped fits_unit ss st = record { es = []; e = []; rest = spread ss st; is = refl; many = refl; goes = refl; gives = gives_message; pays_is = always pays_message }
@@ -162,7 +152,7 @@ stepped (fits_case_un {env = env}) ss st = record { es = [] ∷ top_effect st �
 stepped (fits_decrypt {env = env} g) ss st = record { es = [] ∷ [] ∷ top_effect st ∷ []; e = top_effect st; rest = spread ss (below_top st); is = refl; many = refl; goes = refl; gives = gives_decrypt; pays_is = avoided (length env) (top_effect st) pays_decrypt decrypt_paid }
 stepped (fits_decrypt_un {env = env}) ss st = record { es = [] ∷ [] ∷ top_effect st ∷ []; e = top_effect st; rest = spread ss (below_top st); is = refl; many = refl; goes = refl; gives = gives_decrypt_un; pays_is = avoided (length env) (top_effect st) pays_decrypt_un decrypt_un_paid }
 stepped (fits_check {env = env} {m = m} {n = n} {p = p} {fs = fs} o) ss st =
-    let q = nonce_is o in
+    let q = nonce_complete o in
     record {
       es = [] ∷ top_effect st ∷ [];
       e = minus (top_effect st) fs ++ checks m ∷ [];

@@ -19,7 +19,7 @@ use Rattle.spi_message.proofs.Tested.{stands_kept}
 pub asked_later : {s r : Store} {a : Asked} {m : Message} {t : Ty} → Keeps s r → IsTypeAsked s a m t → IsTypeAsked r a m t
 asked_later k h = record { id = h.id; ty = h.ty; is = h.is; at = k.messages.at _ _ h.at; means = means_keeps k h.means }
 
-bound_later : {s r : Store} {b : Binding} {e : Env} → Keeps s r → Bound s b e → Bound r b e
+pub bound_later : {s r : Store} {b : Binding} {e : Env} → Keeps s r → Bound s b e → Bound r b e
 bound_later k bound_none = bound_none
 bound_later k (bound_one m) = bound_one (means_keeps k m)
 bound_later k (bound_two m n) = bound_two (means_keeps k m) (means_keeps k n)

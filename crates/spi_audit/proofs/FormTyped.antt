@@ -15,10 +15,10 @@ use Rattle.spi_audit.specs.declared.asked.Premises.TheVariants.{OnePremise, TwoP
 use Rattle.spi_audit.specs.Fits.{Subject, of_message, of_process, plain, Fits, fits_split, fits_split_un, fits_match, fits_match_un, fits_case, fits_case_un, fits_decrypt, fits_decrypt_un, fits_check, fits_check_un, fits_new, fits_par}
 use Rattle.spi_audit.specs.Asked.{IsTypeAsked, BeginsWalk, open_message, AnswersPrefix, AnswersFork}
 use Rattle.spi_message.specs.Tested.{IsNonceAt, IsNoNonce}
-use Rattle.spi_audit.proofs.Computed.{nonce_is}
+use Rattle.spi_message.proofs.Deciding.{nonce_sound, nonce_complete, fresh_sound}
 use Rattle.spi_message.proofs.Tested.{stands_kept}
 use Rattle.spi_audit.proofs.FormPremises.{process_open, two_open}
-use Rattle.spi_audit.proofs.FormUses.{as_un, not_un, generative, generated, a_nonce, same, one, two}
+use Rattle.spi_audit.proofs.FormUses.{as_un, not_un, generated, same, one, two}
 
 -- a type that is good later is good before
 pub good_later : (i j : Numbered) (t : Ty) → IsKept i j → ((e : Env) → Stands j e → GoodTy [] e t) → (e : Env) → Stands i e → GoodTy [] e t
@@ -193,14 +193,14 @@ module _ (j k : Numbered) (m : Message) where
   -- a nonce
   module _ (n : Message) (body : ℕ) where
     pub check_no_nonce : IsNoNonce j n → AnswersPrefix j k ProcCheck (Checks m n) body None
-    check_no_nonce h = record { at = λ ss e p s l ps f. let w = check_nonce f in absurd (cc (h.at e s, nonce_is w.1)) }
+    check_no_nonce h = record { at = λ ss e p s l ps f. let w = check_nonce f in absurd (cc (h.at e s, nonce_complete w.1)) }
 
     pub check_fits : {a b : Asked} {t : TyId} → IsNonceAt j n t → IsTypeAsked k.store a m un → BeginsWalk j k body (λ e. []) b
         → AnswersPrefix j k ProcCheck (Checks m n) body (Some (TwoPremises a b))
     check_fits h x y = record {
       at = λ ss e p s l.
           let w = h.at e s in
-          (of_message e m un ∷ (of_process e p ∷ []), fits_check (a_nonce e n w.0 w.1), open_message x (process_open (same j k ss e p s y l)));
+          (of_message e m un ∷ (of_process e p ∷ []), fits_check (nonce_sound e n w.0 w.1), open_message x (process_open (same j k ss e p s y l)));
     }
 
     pub check_un_fits : {a b c : Asked} → IsTypeAsked k.store a m un → IsTypeAsked k.store b n un → BeginsWalk j k body (λ e. []) c
@@ -219,7 +219,7 @@ module _ (j k : Numbered) (t : Ty) (body : ℕ) where
 
   pub fresh_fits : {a : Asked} → is_fresh t ≡ true → ((e : Env) → Stands j e → GoodTy [] e t) → BeginsWalk j k body (λ e. t ∷ []) a → AnswersPrefix j k ProcNew (Freshes t) body (Some (OnePremise a))
   fresh_fits h g x = record {
-    at = λ ss e p s l. (of_process (extended e t) (opened e p) ∷ [], fits_new (generative t h) (g e s), process_open (one j k ss e p s x l));
+    at = λ ss e p s l. (of_process (extended e t) (opened e p) ∷ [], fits_new (fresh_sound t h) (g e s), process_open (one j k ss e p s x l));
   }
 
 -- two processes

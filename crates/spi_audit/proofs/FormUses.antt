@@ -1,18 +1,16 @@
 -- Uses of the rules of processes, held against the forms that they are asked of.
 use Rattle.std.proofs.Common.{◌≡◌, refl, sym, ap, ◌∙◌, subst, ℕ, Bool, true, false, true≢false, List, [], ◌∷◌, ◌++◌, Option, Some, None, Result, IfOk, append_assoc, append-nil}
-use Rattle.std.specs.Prelude.{slice_get}
 use Rattle.std.proofs.lemmas.Result.{IfOk-weaker}
-use Rattle.spi_term.specs.Term.{Message, name, Effect, Ty, un, key, nonce, Sends, Stops, Prefix, Recvs, Serves, Begins as BeginsAt, Ends, EndManys, Casts, Fork, Process, recv, serve, begin, end, end_many, cast}
+use Rattle.spi_term.specs.Term.{Message, Effect, Ty, un, key, nonce, Sends, Stops, Prefix, Recvs, Serves, Begins as BeginsAt, Ends, EndManys, Casts, Fork, Process, recv, serve, begin, end, end_many, cast}
 use Rattle.spi_term.specs.Spelling.{Shape}
-use Rattle.spi_term.proofs.Lists.{get_at}
 use Rattle.spi_rules.specs.Environment.{Env, extended, opened, opened_two, opened_ty}
 use Rattle.spi_rules.specs.Messages.{IsLabel}
 use Rattle.spi_rules.specs.Good.{GoodTy}
-use Rattle.spi_rules.specs.Processes.{IsNonce, nonce_name, IsGenerative}
+use Rattle.spi_rules.specs.Processes.{IsGenerative}
 use Rattle.spi_rules.specs.declared.rule.Rule.{Rule}
 use Rattle.spi_rules.specs.declared.rule.Rule.TheVariants.{ProcStop, ProcOut, ProcIn, ProcRepeat, ProcBegin, ProcEnd, ProcEndMany, ProcCast, ProcCastUn}
 use Rattle.spi_message.specs.Judging.{Numbered, Stands}
-use Rattle.spi_message.specs.Tests.{is_un, is_fresh, nonce_in, nonce_of, labelled, good}
+use Rattle.spi_message.specs.Tests.{is_un, is_fresh, labelled, good}
 use Rattle.spi_message.proofs.Deciding.{is_un_true, good_true, good_from, labelled_true, labelled_from}
 use Rattle.spi_audit.specs.declared.asked.Asked.{Asked}
 use Rattle.spi_audit.specs.declared.asked.Premises.{Premises}
@@ -41,25 +39,11 @@ is_label m h q e s = labelled_true m e (sym (h.at e s) ∙ q)
 pub is_no_label : {j : Numbered} (m : Message) {b : Bool} → IsTest j (labelled m) b → b ≡ false → (e : Env) → Stands j e → IsLabel [] e m → ⊥
 is_no_label m h q e s g = true≢false (sym (sym q ∙ (h.at e s ∙ labelled_from g)))
 
--- what new may make, and nonces
-pub generative : (t : Ty) → is_fresh t ≡ true → IsGenerative t
-generative un h = tt
-generative (key t) h = tt
-generative _ h = true≢false (sym h)
-
+-- what new may not make
 pub generated : (t : Ty) → is_fresh t ≡ false → IsGenerative t → ⊥
 generated un h g = true≢false h
 generated (key t) h g = true≢false h
 generated _ h g = g
-
-nonce_type : (o : Option Ty) (fs : Effect) → nonce_in o ≡ Some fs → o ≡ Some (nonce fs)
-nonce_type None fs h = cc
-nonce_type (Some (nonce es)) fs h = cc
-nonce_type _ fs h = absurd cc
-
-pub a_nonce : (e : Env) (m : Message) (fs : Effect) → nonce_of e m ≡ Some fs → IsNonce [] e m fs
-a_nonce e (name x) fs h = nonce_name (get_at e x (nonce_type (slice_get e x) fs h))
-a_nonce e _ fs h = absurd cc
 
 -- the process of a form, in its environment
 module _ (j k : Numbered) (ss : List Shape) {node : ℕ} {a : Asked} (e : Env) (p : Process) (s : Stands j e) where

@@ -2,10 +2,11 @@
 use Rattle.std.proofs.Common.{◌≡◌, refl, sym, ap, ◌∙◌, subst, ℕ, zero, suc, ◌+◌, ◌*◌, ◌<◌, ◌≤◌, max, Bool, true, false, ◌&&◌, ◌||◌, true≢false, [], ◌∷◌, ◌++◌, ◌⊎◌, inl, inr, ⊎_elim, arith}
 use Rattle.std.specs.BTreeMap.{BTreeMap}
 use Rattle.std.proofs.lemmas.Bool.{lt-ltb, le-ltb, ltb-true, ltb-false, eqb-true, or_left, or_right, cases_Bool}
-use Rattle.spi_term.specs.Term.{Message, bound, name, unit, pair, in_left, in_right, enc, hash, Atom, ends, checks, many, Effect}
+use Rattle.spi_count.proofs.Standing.{zero_or}
+use Rattle.spi_term.specs.Term.{Message, bound, name, unit, pair, in_left, in_right, enc, hash, Atom, Effect}
 use Rattle.spi_term.specs.Lists.{In, in_first, in_later}
 use Rattle.spi_term.specs.Counts.{tally, cut, count, SameEffect}
-use Rattle.spi_term.proofs.Counting.{in_tally, tally_in, count_tally}
+use Rattle.spi_term.proofs.Counting.{count_tally, count_in, in_count, count_none, cut_twice}
 use Rattle.spi_effect.specs.Effect.{IsMany}
 use Rattle.spi_effect.specs.Made.{minus, greater, is_free, is_free_at, mentions}
 use Rattle.spi_effect.proofs.Made.{minus_difference, greater_is, and_true}
@@ -24,31 +25,8 @@ use Rattle.spi_count.proofs.Summed.{numbers}
 use Rattle.spi_intern.specs.Parts.{message_of}
 
 -- counts
-pub count_none : (a : Atom) → count a [] ≡ 0
-count_none (ends m) = refl
-count_none (checks m) = refl
-count_none (many m) = omega arith
-
-pub cut_zero : (a : Atom) → cut a 0 ≡ 0
-cut_zero a = count_none a
-
-cut_twice : (a : Atom) (n : ℕ) → cut a (cut a n) ≡ cut a n
-cut_twice (ends m) n = refl
-cut_twice (checks m) n = refl
-cut_twice (many m) n = omega arith
-
-pub zero_or : (n : ℕ) → (n ≡ 0) ⊎ (0 < n)
-zero_or zero = inl refl
-zero_or (suc n) = inr (omega arith)
-
 pub positive : {m n : ℕ} → m ≡ n → 0 < m → 0 < n
 positive e p = subst (λ n. 0 < n) e p
-
-pub in_count : {a : Atom} {es : Effect} → In a es → 0 < count a es
-in_count {a} {es} n = (count_tally a (tally a es)).1 (in_tally n)
-
-pub count_in : (a : Atom) (es : Effect) → 0 < count a es → In a es
-count_in a es h = tally_in a es ((count_tally a (tally a es)).0 h)
 
 cut_either : (a : Atom) (m n : ℕ) → 0 < cut a (m + n) → (0 < m) ⊎ (0 < n)
 cut_either a m n p = let q = (count_tally a (m + n)).0 p in ⊎_elim (λ e. inr (omega (arith, q, e))) inl (zero_or m)
@@ -158,7 +136,7 @@ module _ {s : Store} {keys : Keys} where
       → SumOf s keys new (h.inner ++ fs) → HeldBy s keys L new names b (es ++ fs)
   held_more {L} {es = es} fs h z t = held_change (es ++ fs) (h.inner ++ fs) h t
       (λ a l. (sum_append h.inner fs).at a ∙ (ap (λ n. cut a (n + count a fs)) (h.inside a l) ∙ sym ((sum_append es fs).at a)))
-      (λ a l. let w : count a h.inner + count a fs ≡ 0 = omega (arith, h.outside a l, z a l) in (sum_append h.inner fs).at a ∙ (ap (cut a) w ∙ cut_zero a))
+      (λ a l. let w : count a h.inner + count a fs ≡ 0 = omega (arith, h.outside a l, z a l) in (sum_append h.inner fs).at a ∙ (ap (cut a) w ∙ count_none a))
       (λ a l. let w : count a es + count a fs ≡ count a es = omega (arith, z a l) in (sum_append es fs).at a ∙ (ap (cut a) w ∙ cut_twice a (tally a es)))
 
   pub held_less : {L : Atom → Bool} {sum new : Sum} {names : BTreeMap ℕ ℕ} {b : Bool} {es : Effect} (fs : Effect) (h : HeldBy s keys L sum names b es) → ((a : Atom) → L a ≡ true → count a fs ≡ 0)
@@ -201,7 +179,7 @@ module _ {s : Store} {keys : Keys} where
   held_joined kd {es = es} {fs = fs} h k t m =
       held_both (es ++ fs) (h.inner ++ k.inner) h k (stands_joined (with_keys s keys) (numbers kd) h.stands k.stands t) m
       (λ a l. (sum_append h.inner k.inner).at a ∙ (ap (λ n. cut a (n + count a k.inner)) (h.inside a l) ∙ (ap (λ n. cut a (count a es + n)) (k.inside a l) ∙ sym ((sum_append es fs).at a))))
-      (λ a l. let w : count a h.inner + count a k.inner ≡ 0 = omega (arith, h.outside a l, k.outside a l) in (sum_append h.inner k.inner).at a ∙ (ap (cut a) w ∙ cut_zero a))
+      (λ a l. let w : count a h.inner + count a k.inner ≡ 0 = omega (arith, h.outside a l, k.outside a l) in (sum_append h.inner k.inner).at a ∙ (ap (cut a) w ∙ count_none a))
       (λ a p. cut_either a (count a es) (count a fs) (positive ((sum_append es fs).at a) p))
       (λ a p. positive (sym ((sum_append es fs).at a)) (cut_left a (count a es) (count a fs) p))
       (λ a p. positive (sym ((sum_append es fs).at a)) (cut_right a (count a es) (count a fs) p))
@@ -252,7 +230,7 @@ module _ {s : Store} {keys : Keys} where
     stays : ((kind : AtomKind) (q : ℕ) → 0 < count_of (part kind sum) q → q < (k + 1) * 4294967296) → (a : Atom) → 0 < count a es → name_bound (message_of a) ≤ n → name_bound (message_of a) ≤ k
     stays u a p l =
         let f = h.inside a (outer_not n a l) in
-        unreached_below (with_keys s keys) (numbers kd) h.stands k u a (count_in a h.inner (positive (sym f) p))
+        unreached_below (with_keys s keys) (numbers kd) h.stands k u a (let r : 0 < count a h.inner = positive (sym f) p in count_in a h.inner r)
 
     pub cut_clean : ((kind : AtomKind) (q : ℕ) → 0 < count_of (part kind sum) q → q < (k + 1) * 4294967296) → HeldBy s keys (outer k) sum names b es × ((a : Atom) → 0 < count a es → name_bound (message_of a) ≤ n → name_bound (message_of a) ≤ k)
     cut_clean u = (held_other h h.stands same, stays u)
@@ -266,5 +244,5 @@ module _ {s : Store} {keys : Keys} where
     pub cut_found : (kind : AtomKind) × (q : ℕ) × (0 < count_of (part kind sum) q) × ((k + 1) * 4294967296 ≤ q) → (a : Atom) × (0 < count a es) × (k < name_bound (message_of a)) × (name_bound (message_of a) ≤ n)
     cut_found (kind, q, p, l) =
         let (a, i, o) = reached_in (with_keys s keys) (numbers kd) h.stands k kind q p l in
-        let w = inner_in h a (in_count i) in
+        let w = inner_in h a (in_count a h.inner i) in
         (a, w.1, omega (arith, o), outer_false n a w.0)

@@ -1,13 +1,11 @@
 -- The forward pass: where uses lead to, and what is open behind a use that fits.
 use Rattle.std.proofs.Common.{◌≡◌, refl, sym, ap, ◌∙◌, subst, ℕ, zero, suc, ◌≤◌, List, [], ◌∷◌, ◌++◌, length, take, arith}
 use Rattle.std.proofs.lemmas.List.{append_assoc, append-nil, take_all}
-use Rattle.spi_term.specs.Term.{Message, Ty}
 use Rattle.spi_term.specs.Spelling.{Shape}
 use Rattle.spi_rules.specs.Environment.{Env}
 use Rattle.spi_rules.specs.Derivations.{RuleUse}
 use Rattle.spi_intern.specs.declared.store.Store.{Store}
 use Rattle.spi_intern.specs.Meaning.{Keeps}
-use Rattle.spi_intern.proofs.Meanings.{means_keeps}
 use Rattle.spi_intern.specs.declared.types.TyId.{TyId}
 use Rattle.spi_message.specs.Judging.{Numbered, Stands, StandFor}
 use Rattle.spi_message.proofs.Standing.{stand_push}
@@ -16,10 +14,11 @@ use Rattle.spi_audit.specs.declared.asked.Binding.TheVariants.{Nothing, OneName,
 use Rattle.spi_audit.specs.declared.asked.Asked.{Asked}
 use Rattle.spi_audit.specs.Fits.{Subject, of_process, Fits}
 use Rattle.spi_audit.specs.Audit.{MisfitAt, misfit_here, misfit_later}
-use Rattle.spi_audit.specs.Asked.{Bound, bound_none, bound_one, bound_two, IsTypeAsked, AreAsked, asked_none, asked_next, AreBegun, begun_none, begun_next, AreOpen, open_message, open_processes}
+use Rattle.spi_audit.specs.Asked.{Bound, bound_none, bound_one, bound_two, AreAsked, asked_none, asked_next, AreBegun, begun_none, begun_next, AreOpen, open_message, open_processes}
 use Rattle.spi_audit.specs.Changes.{Change, change_of}
 use Rattle.spi_audit.specs.Walking.{Trace, trace_none, trace_use, Led, led_none, led_use, Later, later_none, later_next, Opens, opens_message, opens_later, Misfits, Settles}
 use Rattle.spi_message.specs.Tested.{Turns}
+use Rattle.spi_audit.proofs.FormPremises.{asked_later, bound_later}
 
 -- one use more
 pub led_next : {ss ts : List Subject} {us : List RuleUse} {cs : List Change} {t : Subject} {u : RuleUse} {ps : List Subject} → Led ss us cs (t ∷ ts) → Fits u t ps → Led ss (us ++ u ∷ []) (cs ++ change_of u t ∷ []) (ps ++ ts)
@@ -37,15 +36,6 @@ pub led_trace : {ss : List Subject} {us : List RuleUse} {cs : List Change} → L
 led_trace led_none = trace_none
 led_trace (led_use g l) = trace_use g (led_trace l)
 
--- numbers mean what they meant
-pub bound_keeps : {s r : Store} {names : Binding} {types : Env} → Keeps s r → Bound s names types → Bound r names types
-bound_keeps k bound_none = bound_none
-bound_keeps k (bound_one m) = bound_one (means_keeps k m)
-bound_keeps k (bound_two m n) = bound_two (means_keeps k m) (means_keeps k n)
-
-pub asked_keeps : {s r : Store} {a : Asked} {m : Message} {t : Ty} → Keeps s r → IsTypeAsked s a m t → IsTypeAsked r a m t
-asked_keeps {m = m} k w = record { id = w.id; ty = w.ty; is = w.is; at = k.messages.at w.id.place m w.at; means = means_keeps k w.means }
-
 take_less : {A : Type 0} (xs ys : List A) (n k : ℕ) → k ≤ n → take n xs ≡ take n ys → take k xs ≡ take k ys
 take_less xs ys n k le e = sym (take_twice n k xs le) ∙ (ap (take k) e ∙ take_twice n k ys le)
   where
@@ -60,10 +50,10 @@ pub later_moved : {s r : Store} {ss : List Shape} {base n : ℕ} (m : ℕ) {env 
 later_moved m other k le e later_none = later_none
 later_moved {n = n} m {env = env} other k le e (later_next {scope = scope} {types = types} a b c bound is located rest) =
     let f = take_less env other n scope b e in
-    later_next a (omega (arith, b, le)) c (bound_keeps k bound) (is ∙ ap (λ xs. xs ++ types) f) located (later_moved scope other k (omega arith) f rest)
+    later_next a (omega (arith, b, le)) c (bound_later k bound) (is ∙ ap (λ xs. xs ++ types) f) located (later_moved scope other k (omega arith) f rest)
 
 pub opens_keeps : {s r : Store} {ss : List Shape} {base : ℕ} {env : Env} {qs : List Asked} {ts : List Subject} → Keeps s r → Opens s ss base env qs ts → Opens r ss base env qs ts
-opens_keeps k (opens_message a w) = opens_message (asked_keeps k a) (opens_keeps k w)
+opens_keeps k (opens_message a w) = opens_message (asked_later k a) (opens_keeps k w)
 opens_keeps {env = env} k (opens_later w) = opens_later (later_moved (length env) env k (omega arith) refl w)
 
 -- the premises of a message's use, before the others

@@ -5,13 +5,13 @@ use Rattle.std.specs.BTreeMap.{BTreeMap}
 use Rattle.std.proofs.lemmas.Bool.{eqb-true, or_left, or_right, cases_Bool, or_cases}
 use Rattle.spi_term.specs.Term.{Message, Atom, ends, checks, many, same_atom, Effect}
 use Rattle.spi_term.specs.Counts.{cut, count}
-use Rattle.spi_term.proofs.Counting.{same_atom_refl, same_atom_true}
+use Rattle.spi_term.proofs.Choices.{one_false, truths}
+use Rattle.spi_term.proofs.Counting.{same_atom_refl, same_atom_true, count_in, in_count, count_none}
 use Rattle.spi_effect.specs.Effect.{IsMany}
 use Rattle.spi_effect.specs.Made.{are_many, every_out, is_free, is_free_at, mentions}
 use Rattle.spi_effect.proofs.Made.{tally_every_other, tally_every_same, are_many_sound, are_many_complete, or_false, both_false, and_true, both_true}
 use Rattle.spi_effect.proofs.Laws.{AllMany_in, AllMany_of}
 use Rattle.spi_intern.specs.declared.store.Store.{Store}
-use Rattle.spi_intern.proofs.Lists.{truths}
 use Rattle.spi_count.specs.Counts.{count_of, IsNothing}
 use Rattle.spi_count.specs.Sums.{name_bound, key_of, kind_of_atom, part, Puts}
 use Rattle.spi_count.specs.declared.sum.AtomKind.{AtomKind}
@@ -24,7 +24,8 @@ use Rattle.spi_count.specs.Keeping.{with_keys, IsKeyed}
 use Rattle.spi_count.specs.Adding.{IsKey, SumOf}
 use Rattle.spi_audit.specs.Accounts.{HeldBy, outer, Marks, lasting_with, IsScopeCut, LeavesOne, LeavesTwo}
 use Rattle.spi_count.proofs.Summed.{numbers}
-use Rattle.spi_audit.proofs.Holding.{zero_or, in_count, count_in, inner_in, held_other, outer_true, outer_false, outer_from, outer_not, mentions_in, in_mentioned, free_at_below, cut_zero, positive}
+use Rattle.spi_count.proofs.Standing.{zero_or}
+use Rattle.spi_audit.proofs.Holding.{inner_in, held_other, outer_true, outer_false, outer_from, outer_not, mentions_in, in_mentioned, free_at_below, positive}
 use Rattle.spi_intern.specs.Parts.{message_of}
 
 -- an effect with each of an atom out
@@ -32,7 +33,7 @@ count_every : (c a : Atom) (es : Effect) → count c (every_out a es) ≡ (if sa
 count_every c a es = go (same_atom c a) refl
   where
     go : (t : Bool) → same_atom c a ≡ t → count c (every_out a es) ≡ (if t then 0 else count c es)
-    go true e = subst (λ b. count c (every_out b es) ≡ 0) (same_atom_true c a e) (ap (cut c) (tally_every_same c es) ∙ cut_zero c)
+    go true e = subst (λ b. count c (every_out b es) ≡ 0) (same_atom_true c a e) (ap (cut c) (tally_every_same c es) ∙ count_none c)
     go false e = ap (cut c) (tally_every_other c a es (λ f. true≢false (sym (same_atom_refl c) ∙ (ap (same_atom c) f ∙ e))))
 
 big_name : (k above i q : ℕ) → q ≡ key_of above i → i < 4294967296 → (k + 1) * 4294967296 ≤ q → k < above
@@ -41,10 +42,6 @@ big_name k above i q e l m = omega (arith, e, l, m)
 not_is : (b m : Bool) → (b ≡ true → m ≡ false) → (b ≡ false → m ≡ true) → b ≡ not m
 not_is true m f g = ap not (sym (f refl))
 not_is false m f g = ap not (sym (g refl))
-
-not_free : (a b : Bool) → (a && b) ≡ false → (a ≡ false) ⊎ (b ≡ false)
-not_free true b e = inr e
-not_free false b e = inl refl
 
 zero_no : (n : ℕ) → nat_eq n 0 ≡ false → 0 < n
 zero_no zero e = absurd (true≢false e)
@@ -82,13 +79,13 @@ module _ {s : Store} {keys : Keys} where
   stands_out : IsKeyed s keys → {sum new : Sum} (inner : Effect) → SumOf s keys sum inner → (a : Atom) (i : ℕ) → with_keys s keys i (message_of a) → Puts (kind_of_atom a) sum new (key_of (name_bound (message_of a)) i) 0 → SumOf s keys new (every_out a inner)
   stands_out kd {sum} {new} inner h a i g put = record {
     counted = λ c j gj. put_at (with_keys s keys) (numbers kd) a i 0 g put c j gj ∙ (ap (λ n. if same_atom c a then 0 else n) (h.counted c j gj) ∙ sym (count_every c a inner));
-    known = λ c n. known_of c (same_atom c a) refl (in_count n);
+    known = λ c n. known_of c (same_atom c a) refl (in_count c (every_out a inner) n);
     kept = λ kind q p. h.kept kind q (kept_of kind q p (same_kind kind (kind_of_atom a)));
   }
     where
       known_of : (c : Atom) (t : Bool) → same_atom c a ≡ t → 0 < count c (every_out a inner) → (j : ℕ) × with_keys s keys j (message_of c)
       known_of c true e p = absurd (let z = count_every c a inner ∙ ap (λ t. if t then 0 else count c inner) e in omega (arith, z, p))
-      known_of c false e p = h.known c (count_in c inner (positive (count_every c a inner ∙ ap (λ t. if t then 0 else count c inner) e) p))
+      known_of c false e p = h.known c (let q : 0 < count c inner = positive (count_every c a inner ∙ ap (λ t. if t then 0 else count c inner) e) p in count_in c inner q)
 
       cases : (q : ℕ) (v : Bool) → 0 < (if v then 0 else count_of (part (kind_of_atom a) sum) q) → 0 < count_of (part (kind_of_atom a) sum) q
       cases q true l = absurd (omega (arith, l))
@@ -161,7 +158,7 @@ module _ {s : Store} {keys : Keys} where
       same : (a : Atom) → 0 < count a es → w.loose a ≡ outer k a
       same a p = ⊎_elim
           (λ l. l ∙ sym (outer_from k a (⊎_elim (λ f. let o = outer_true n a f in let r : k < name_bound (message_of a) = omega (arith, o, le) in r) (λ o. o) (w.by a l))))
-          (λ l. l ∙ sym (outer_not k a (unreached_below (with_keys s keys) (numbers kd) w.held.stands k u a (count_in a w.held.inner (positive (sym (w.held.inside a l)) p)))))
+          (λ l. l ∙ sym (outer_not k a (unreached_below (with_keys s keys) (numbers kd) w.held.stands k u a (let q : 0 < count a w.held.inner = positive (sym (w.held.inside a l)) p in count_in a w.held.inner q))))
           (cases_Bool (w.loose a))
 
   -- which names an effect has
@@ -173,8 +170,8 @@ module _ {s : Store} {keys : Keys} where
         found e =
             let (a, i, f) = mentions_in y es e in
             ⊎_elim
-            (λ l. let p = h.named a y l (in_count i) f in omega (arith, p, z))
-            (λ l. let q = st a (in_count i) (outer_false n a l) in let r = free_at_below y a f in omega (arith, q, r, le))
+            (λ l. let p = h.named a y l (in_count a es i) f in omega (arith, p, z))
+            (λ l. let q = st a (in_count a es i) (outer_false n a l) in let r = free_at_below y a f in omega (arith, q, r, le))
             (cases_Bool (outer n a))
 
     mentioned : (y : ℕ) → 0 < count_of names y → mentions y es ≡ true
@@ -189,7 +186,7 @@ module _ {s : Store} {keys : Keys} where
             (λ t. ⊎_elim
             (λ i. let (a, p, l, m) = w.2 i in in_mentions k a es (count_in a es p) (next_name (name_bound (message_of a)) k l m))
             (λ z. mentioned k (suc k) h k (subst (λ n. 0 < n) e (zero_no loose z)))
-            (not_free inside (nat_eq loose 0) t)),
+            (one_false inside (nat_eq loose 0) t)),
       )
 
   pub left_two : (k : ℕ) (old new : Account) (inside : Bool) (x y z : ℕ) → z ≡ suc k → x ≡ count_of old.loose.counts k → y ≡ count_of old.loose.counts z → IsScopeCut s keys k old inside new → LeavesTwo s keys k old ((inside && nat_eq x 0) && nat_eq y 0) new
@@ -206,9 +203,9 @@ module _ {s : Store} {keys : Keys} where
             (λ i. let (a, p, l, m) = w.2 i in
             ⊎_elim (λ b. or_left (mentions k es) (mentions (suc k) es) (in_mentions k a es (count_in a es p) b)) (λ b. or_right (mentions k es) (mentions (suc k) es) (in_mentions (suc k) a es (count_in a es p) b)) (one_or_next (name_bound (message_of a)) k l m))
             (λ o. or_left (mentions k es) (mentions (suc k) es) (mentioned k (suc (suc k)) h k (subst (λ n. 0 < n) e (zero_no x o))))
-            (not_free inside (nat_eq x 0) t))
+            (one_false inside (nat_eq x 0) t))
             (λ o. or_right (mentions k es) (mentions (suc k) es) (mentioned k (suc (suc k)) h (suc k) (subst (λ n. 0 < n) f' (zero_no y o))))
-            (not_free (inside && nat_eq x 0) (nat_eq y 0) t)),
+            (one_false (inside && nat_eq x 0) (nat_eq y 0) t)),
       )
 
   -- whether each atom is a `many`
@@ -220,12 +217,12 @@ module _ {s : Store} {keys : Keys} where
           let r = and_true b m e in
           let z = t.0 r.1 in
           let all = are_many_sound h.inner (stands_many (with_keys s keys) (numbers kd) h.stands z.0 z.1) in
-          are_many_complete es (AllMany_of es (λ a i. ⊎_elim (λ l. h.lasts r.0 a l (in_count i)) (λ l. AllMany_in (count_in a h.inner (positive (sym (h.inside a l)) (in_count i))) all) (cases_Bool (outer n a))))
+          are_many_complete es (AllMany_of es (λ a i. ⊎_elim (λ l. h.lasts r.0 a l (in_count a es i)) (λ l. let p : 0 < count a es = in_count a es i in let q : 0 < count a h.inner = positive (sym (h.inside a l)) p in AllMany_in (count_in a h.inner q) all) (cases_Bool (outer n a))))
 
       from : are_many es ≡ true → (b && m) ≡ true
       from e =
           let all = are_many_sound es e in
-          let inner = are_many_complete h.inner (AllMany_of h.inner (λ a i. AllMany_in (count_in a es (inner_in h a (in_count i)).1) all)) in
+          let inner = are_many_complete h.inner (AllMany_of h.inner (λ a i. AllMany_in (count_in a es (inner_in h a (in_count a h.inner i)).1) all)) in
           both_true
           (⊎_elim (λ f. f) (λ f. absurd (let (a, l, p, no_many) = h.once f in no_many (AllMany_in (count_in a es p) all))) (cases_Bool b))
           (t.1 (many_stands (with_keys s keys) (numbers kd) h.stands inner))

@@ -1,9 +1,10 @@
 -- Names of Key types, and ciphertexts under them.
 use Rattle.std.proofs.Common.{◌≡◌, refl, sym, ap, ◌∙◌, subst, ℕ, ◌<◌, length, arith, Bool, true, List, [], ◌∷◌, Option, Some, None, IfSome, IfNone}
+use Rattle.std.proofs.lemmas.Option.{slice_get_within}
 use Rattle.std.specs.Prelude.{slice_get}
 use Rattle.spi_term.specs.Lists.{At}
 use Rattle.spi_term.specs.Term.{Message, name, enc, Ty, un, key}
-use Rattle.spi_term.proofs.Lists.{at_get, get_at}
+use Rattle.spi_term.proofs.Lists.{at_get, get_at, some_is}
 use Rattle.spi_rules.specs.Environment.{Env}
 use Rattle.spi_rules.specs.declared.rule.Rule.TheVariants.{MsgEnc}
 use Rattle.spi_intern.specs.declared.store.Store.{Store}
@@ -13,16 +14,15 @@ use Rattle.spi_intern.specs.declared.messages.MsgPart.TheVariants as P
 use Rattle.spi_intern.specs.declared.types.TyId.{TyId}
 use Rattle.spi_intern.specs.Meaning.{Means}
 use Rattle.spi_intern.specs.Messages.{Says, says_name, says_enc}
-use Rattle.spi_intern.proofs.Lists.{some_one, get_below}
 use Rattle.spi_message.specs.Judging.{Numbered, Stands}
 use Rattle.spi_message.specs.Asking.{IsKeyFor, IsNoKey}
 use Rattle.spi_message.specs.Tests.{is_un, key_in}
 use Rattle.spi_message.proofs.Standing.{stand_at, stand_length}
-use Rattle.spi_message.proofs.Deciding.{is_un_true}
 use Rattle.spi_audit.specs.declared.asked.Asked.TheVariants as A
 use Rattle.spi_audit.specs.declared.asked.Premises.TheVariants.{OnePremise}
 use Rattle.spi_audit.specs.Fits.{Subject, of_message, plain, Fits, fits_enc}
 use Rattle.spi_audit.specs.Asked.{asked_none, asked_next, AnsweredMessage, AnswersPart, IsKeyAt, IsNoKeyAt}
+use Rattle.spi_audit.proofs.Replies.{is_there}
 
 -- the payload of the type of a name
 module _ (j : Numbered) (x : ℕ) where
@@ -46,7 +46,7 @@ module _ (j : Numbered) (x : ℕ) where
             let (u, f, m) = stand_at s x i g in
             let p : x ≡ y = cc in
             let b : slice_get e x ≡ Some (key v) = subst (λ z. slice_get e z ≡ Some (key v)) (sym p) (at_get a) in
-            let k : u ≡ key v = some_one (sym f ∙ b) in
+            let k : u ≡ key v = some_is (sym f ∙ b) in
             let n : Some v ≡ None = ap (λ (u : Ty). key_in (Some u)) (sym k) ∙ h.at u m in
             absurd (cc n)
 
@@ -56,7 +56,7 @@ module _ (j : Numbered) (x : ℕ) where
       at : (e : Env) (y : ℕ) (v : Ty) → Stands j e → name x ≡ name y → At e y (key v) → ⊥
       at e y v s q a =
           let p : x ≡ y = cc in
-          let b = get_below e y (key v) (at_get a) in
+          let b = slice_get_within e y (key v) (at_get a) in
           let k = stand_length s in
           l (omega (arith, b, k, p))
 
@@ -85,9 +85,6 @@ module _ {r : Store} (j : Numbered) (e : r ≡ j.store) (i : ℕ) where
 
 -- a ciphertext under a name of a Key type
 module _ (j : Numbered) (t : TyId) (b : Bool) (told : (u : Ty) → Means j.store t.place u → b ≡ is_un u) (x y : MsgId) where
-  is_there : b ≡ true → (u : Ty) → Means j.store t.place u → u ≡ un
-  is_there e u m = is_un_true u (sym (told u m) ∙ e)
-
   pub enc_not : ((k : Message) → slice_get j.store.messages y.place ≡ Some k → IsNoKeyAt j k) → AnswersPart j j MsgEnc (P.Enc x y) t None
   enc_not h = record { at = λ env m u s w n. go s w }
     where
@@ -95,7 +92,7 @@ module _ (j : Numbered) (t : TyId) (b : Bool) (told : (u : Ty) → Means j.store
       go {env = env} s (says_enc g k) ps (fits_enc {x = z} {t = v} a) = (h (name z) k).at env z v s refl a
 
   pub enc_fits : (p : TyId) → b ≡ true → ((k : Message) → slice_get j.store.messages y.place ≡ Some k → IsKeyAt j k p) → AnswersPart j j MsgEnc (P.Enc x y) t (Some (OnePremise (A.Message x p)))
-  enc_fits p e h = record { at = λ env m u s w n. go s w u (is_there e u n) }
+  enc_fits p e h = record { at = λ env m u s w n. go s w u (is_there j t b told e u n) }
     where
       go : {env : Env} {m : Message} → Stands j env → Says j.store.messages (P.Enc x y) m → (u : Ty) → u ≡ un → AnsweredMessage j.store env (plain MsgEnc) m u (Some (OnePremise (A.Message x p)))
       go {env = env} s (says_enc {m = k} {n = l} g f) u q =

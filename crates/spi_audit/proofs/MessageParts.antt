@@ -1,8 +1,10 @@
 -- Pairs and hashes, and the parts of a message by their numbers.
 use Rattle.std.proofs.Common.{◌≡◌, refl, sym, ◌∙◌, subst, ℕ, ◌<◌, length, ◌↔◌, Bool, true, false, true≢false, List, [], ◌∷◌, Some, None, ◌⊎◌}
+use Rattle.std.proofs.lemmas.Option.{slice_get_within}
 use Rattle.std.specs.Prelude.{slice_get}
 use Rattle.spi_term.specs.Substitution.{ty_put}
 use Rattle.spi_term.specs.Term.{Message, bound, pair, hash, Ty, un, pair_ty}
+use Rattle.spi_term.proofs.Lists.{get_some}
 use Rattle.spi_rules.specs.Environment.{Env}
 use Rattle.spi_rules.specs.Messages.{IsLabel}
 use Rattle.spi_rules.specs.declared.rule.Rule.{Rule}
@@ -15,15 +17,14 @@ use Rattle.spi_intern.specs.declared.types.TyId.{TyId}
 use Rattle.spi_intern.specs.Given.{IsGiven}
 use Rattle.spi_intern.specs.Meaning.{Means}
 use Rattle.spi_intern.specs.Messages.{Says, says_bound, says_pair, says_enc, says_hash}
-use Rattle.spi_intern.proofs.Lists.{get_below, below_get}
 use Rattle.spi_intern.proofs.Meanings.{means_keeps}
 use Rattle.spi_message.specs.Judging.{Numbered, Stands, IsKept}
 use Rattle.spi_message.specs.Tests.{is_un}
-use Rattle.spi_message.proofs.Deciding.{is_un_true}
 use Rattle.spi_audit.specs.declared.asked.Asked.TheVariants as A
 use Rattle.spi_audit.specs.declared.asked.Premises.TheVariants.{NoPremise, TwoPremises}
 use Rattle.spi_audit.specs.Fits.{Subject, of_message, plain, Fits, fits_pair, fits_hash}
 use Rattle.spi_audit.specs.Asked.{asked_none, asked_next, AnsweredMessage, AnswersPart, AnswersMessage, IsPairOf, IsNoPair}
+use Rattle.spi_audit.proofs.Replies.{is_there}
 
 -- a pair of a pair type
 pub pair_given : {s : Store} {t a b : TyId} → IsPairOf s t a b → IsGiven s t.place → IsGiven s b.place
@@ -46,12 +47,9 @@ pair_not j t x y p = record { at = λ env m u s w n ps f. go n f }
 
 -- a hash of a label
 module _ (j : Numbered) (t : TyId) (b : Bool) (told : (u : Ty) → Means j.store t.place u → b ≡ is_un u) (x : MsgId) where
-  is_there : b ≡ true → (u : Ty) → Means j.store t.place u → u ≡ un
-  is_there e u m = is_un_true u (sym (told u m) ∙ e)
-
   module _ (k : Numbered) (d : Bool) (labels : (env : Env) (n : Message) → Stands j env → slice_get j.store.messages x.place ≡ Some n → (d ≡ true) ↔ IsLabel [] env n) where
     pub hash_fits : b ≡ true → d ≡ true → AnswersPart j k MsgHash (P.Hash x) t (Some NoPremise)
-    hash_fits e f = record { at = λ env m u s w n. go s w u (is_there e u n) }
+    hash_fits e f = record { at = λ env m u s w n. go s w u (is_there j t b told e u n) }
       where
         go : {env : Env} {m : Message} → Stands j env → Says j.store.messages (P.Hash x) m → (u : Ty) → u ≡ un → AnsweredMessage k.store env (plain MsgHash) m u (Some NoPremise)
         go {env = env} s (says_hash {m = n} g) u q =
@@ -68,26 +66,26 @@ module _ {r s : Store} (e : r ≡ s) (i : ℕ) (below : i < length s.messages) w
   said_there : (p : MsgPart) → ((n : Message) → slice_get r.messages i ≡ Some n → Says r.messages p n) → (m : Message) × Says s.messages p m
   said_there p h =
       let P = λ (s : Store). (n : Message) → slice_get s.messages i ≡ Some n → Says s.messages p n in
-      let (m, g) = below_get s.messages i below in
+      let (m, g) = get_some s.messages i below in
       (m, subst P e h m g)
 
   pub first_below : {a b : MsgId} → ((n : Message) → slice_get r.messages i ≡ Some n → Says r.messages (P.Pair a b) n) → a.place < length s.messages
   first_below {a = a} {b = b} h = go (said_there (P.Pair a b) h).1
     where
       go : {m : Message} → Says s.messages (P.Pair a b) m → a.place < length s.messages
-      go (says_pair {m = m} g f) = get_below s.messages a.place m g
+      go (says_pair {m = m} g f) = slice_get_within s.messages a.place m g
 
   pub key_below : {a b : MsgId} → ((n : Message) → slice_get r.messages i ≡ Some n → Says r.messages (P.Enc a b) n) → b.place < length s.messages
   key_below {a = a} {b = b} h = go (said_there (P.Enc a b) h).1
     where
       go : {m : Message} → Says s.messages (P.Enc a b) m → b.place < length s.messages
-      go (says_enc {n = n} g f) = get_below s.messages b.place n f
+      go (says_enc {n = n} g f) = slice_get_within s.messages b.place n f
 
   pub hashed_below : {a : MsgId} → ((n : Message) → slice_get r.messages i ≡ Some n → Says r.messages (P.Hash a) n) → a.place < length s.messages
   hashed_below {a = a} h = go (said_there (P.Hash a) h).1
     where
       go : {m : Message} → Says s.messages (P.Hash a) m → a.place < length s.messages
-      go (says_hash {m = m} g) = get_below s.messages a.place m g
+      go (says_hash {m = m} g) = slice_get_within s.messages a.place m g
 
 -- no rule types an index
 no_index : {rule : Rule} {env : Env} {i : ℕ} {u : Ty} {ps : List Subject} → Fits (plain rule) (of_message env (bound i) u) ps → ⊥

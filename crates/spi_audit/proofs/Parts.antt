@@ -1,6 +1,6 @@
 -- The parts of types by their numbers.
 use Rattle.std.proofs.Common.{◌≡◌, refl, sym, subst, ℕ, ◌<◌, length}
-use Rattle.spi_intern.proofs.Lists.{get_below}
+use Rattle.std.proofs.lemmas.Option.{slice_get_within}
 use Rattle.spi_term.specs.Term.{Ty, pair_ty, sum_ty}
 use Rattle.spi_intern.specs.Given.{IsGiven}
 use Rattle.spi_intern.specs.Meaning.{Means}
@@ -20,7 +20,7 @@ module _ {r s : Store} (e : r ≡ s) where
   means_there {i} {u} m = subst (λ s. Means s i u) (sym e) m
 
   pub given_place : {i : ℕ} → IsGiven s i → i < length r.types
-  given_place {i} g = let m = means_there g.means in get_below r.types i m.kind m.at
+  given_place {i} g = let m = means_there g.means in slice_get_within r.types i m.kind m.at
 
   means_here : {i : ℕ} {u : Ty} → Means r i u → Means s i u
   means_here {i} {u} m = subst (λ s. Means s i u) e m

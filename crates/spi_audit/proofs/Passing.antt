@@ -3,6 +3,7 @@ use Rattle.std.proofs.Common.{◌≡◌, refl, sym, ap, ◌∙◌, subst, ℕ, s
 use Rattle.std.specs.Prelude.{if◌then◌else◌}
 use Rattle.std.proofs.lemmas.List.{append-nil, append_assoc}
 use Rattle.spi_term.specs.Term.{Effect}
+use Rattle.spi_term.proofs.Lists.{length_more}
 use Rattle.spi_intern.specs.declared.store.Store.{Store}
 use Rattle.spi_count.specs.declared.keys.Keys.{Keys}
 use Rattle.spi_audit.specs.declared.accounts.Account.{Account}
@@ -55,10 +56,6 @@ noted_length : {s : Store} {keys : Keys} {cs : List Change} {os : List Note} →
 noted_length are_noted_none = refl
 noted_length (are_noted_next w t) = ap suc (noted_length t)
 
-length_last : {A : Type 0} (xs : List A) (x : A) → length (xs ++ x ∷ []) ≡ suc (length xs)
-length_last [] x = refl
-length_last (y ∷ xs) x = ap suc (length_last xs x)
-
 next_first : (b pay : Bool) (m n i j : ℕ) (old new : Option ℕ) (back : List Change) → b ≡ pay → new ≡ (if b then old else Some m) → m ≡ n → i ≡ suc n → old ≡ first_unpaid_change i back → new ≡ (if pay then first_unpaid_change (suc n) back else Some n)
 next_first true pay m n i j old new back e f g h k = subst (λ p. new ≡ (if p then first_unpaid_change (suc n) back else Some n)) e (f ∙ (k ∙ ap (λ i. first_unpaid_change i back) h))
 next_first false pay m n i j old new back e f g h k = subst (λ p. new ≡ (if p then first_unpaid_change (suc n) back else Some n)) e (f ∙ ap Some g)
@@ -79,7 +76,7 @@ passed_next {s} {keys} {cs} {all} {old} {unpaid} p rest o new b next e changes f
     turned : (ns : List ℕ) → AreScoped ns (last.change ∷ p.back) → HoldsEffects s keys ns (reverse new) (effects_after last.change (run_changes p.back)) × (next ≡ first_unpaid_change (length last.others) (last.change ∷ p.back))
     turned ns (scoped_next ms sc q r) =
         let t = changes.at last.change ms (run_changes p.back) last.is sc (p.holds (before last.change ++ ms) r) in
-        (holds_names (sym q) t.0, next_first b (pays last.change (run_changes p.back)) (length rest) (length last.others) (length p.front) 0 unpaid next p.back t.1 f (sym (noted_length last.noted)) (ap length last.all ∙ length_last last.others last.change) (p.first (before last.change ++ ms) r))
+        (holds_names (sym q) t.0, next_first b (pays last.change (run_changes p.back)) (length rest) (length last.others) (length p.front) 0 unpaid next p.back t.1 f (sym (noted_length last.noted)) (ap length last.all ∙ length_more last.others last.change) (p.first (before last.change ++ ms) r))
 
 scoped_later : (front : List Change) {back : List Change} {ns : List ℕ} → AreScoped ns (front ++ back) → (ms : List ℕ) × AreScoped ms back
 scoped_later [] {ns = ns} h = (ns, h)
@@ -138,4 +135,4 @@ small_last rest o e h = go rest (subst AreSmallNotes e h)
     go (x ∷ rest) h = let r = go rest h.1 in ((h.0, r.0), r.1)
 
 pub shorter : {A : Type 0} (all rest : List A) (o : A) → all ≡ rest ++ o ∷ [] → length all ≡ suc (length rest)
-shorter all rest o e = ap length e ∙ length_last rest o
+shorter all rest o e = ap length e ∙ length_more rest o

@@ -1,5 +1,6 @@
 -- Uses of the rules of messages, held against what they are asked of.
 use Rattle.std.proofs.Common.{◌≡◌, refl, sym, ap, ◌∙◌, subst, ℕ, ◌≤◌, length, arith, Bool, true, false, true≢false, List, [], ◌∷◌, Some, None, ◌⊎◌, inl, inr}
+use Rattle.std.proofs.lemmas.Option.{slice_get_within}
 use Rattle.std.specs.Prelude.{slice_get, ⊤, if◌then◌else◌, Option}
 use Rattle.spi_term.specs.Term.{Message, unit, Ty, un, unit_ty, sum_ty}
 use Rattle.spi_rules.specs.Environment.{Env}
@@ -13,9 +14,8 @@ use Rattle.spi_intern.specs.declared.types.TyId.{TyId}
 use Rattle.spi_intern.specs.Meaning.{Means}
 use Rattle.spi_intern.specs.Messages.{Says, says_bound, says_name, says_unit, says_pair, says_left, says_right, says_enc, says_hash}
 use Rattle.spi_intern.specs.Meaning.{NoneTwice}
-use Rattle.spi_intern.proofs.Lists.{some_one, get_below}
 use Rattle.spi_intern.proofs.Telling.{types_tell}
-use Rattle.spi_term.proofs.Lists.{at_get, get_at}
+use Rattle.spi_term.proofs.Lists.{at_get, get_at, some_is}
 use Rattle.spi_message.proofs.Standing.{stand_at, stand_length}
 use Rattle.spi_message.specs.Judging.{Numbered, Stands}
 use Rattle.spi_message.specs.Tests.{is_un, is_unit}
@@ -85,7 +85,7 @@ at_un k (fits_hash l) = refl
 at_un k _ = absurd k
 
 module _ (j : Numbered) (t : TyId) (b : Bool) (told : (u : Ty) → Means j.store t.place u → b ≡ is_un u) where
-  is_there : b ≡ true → (u : Ty) → Means j.store t.place u → u ≡ un
+  pub is_there : b ≡ true → (u : Ty) → Means j.store t.place u → u ≡ un
   is_there e u m = is_un_true u (sym (told u m) ∙ e)
 
   not_there : b ≡ false → (u : Ty) → Means j.store t.place u → u ≡ un → ⊥
@@ -191,7 +191,7 @@ module _ (j : Numbered) (x : ℕ) (t : TyId) where
   name_past l = record { at = λ env m u s w n. go s w }
     where
       go : {env : Env} {m : Message} {u : Ty} → Stands j env → Says j.store.messages (P.Name x) m → (ps : List Subject) → Fits (plain MsgName) (of_message env m u) ps → ⊥
-      go {env} s says_name ps (fits_name {s = v} a q) = let b = get_below env x v (at_get a) in let h = stand_length s in omega (arith, b, h, l)
+      go {env} s says_name ps (fits_name {s = v} a q) = let b = slice_get_within env x v (at_get a) in let h = stand_length s in omega (arith, b, h, l)
 
   module _ (i : TyId) (d : NoneTwice j.store) (g : slice_get j.types x ≡ Some i) where
     pub name_same : i.place ≡ t.place → AnswersPart j j MsgName (P.Name x) t (Some NoPremise)
@@ -206,5 +206,5 @@ module _ (j : Numbered) (x : ℕ) (t : TyId) where
         go : {env : Env} {m : Message} {u : Ty} → Stands j env → Says j.store.messages (P.Name x) m → Means j.store t.place u → (ps : List Subject) → Fits (plain MsgName) (of_message env m u) ps → ⊥
         go {u = u} s says_name n ps (fits_name {s = v} a q) =
             let (w, h, m) = stand_at s x i g in
-            let z : w ≡ v = some_one (sym h ∙ at_get a) in
+            let z : w ≡ v = some_is (sym h ∙ at_get a) in
             e ((types_tell j.store d i.place t.place v u (subst (λ w. Means j.store i.place w) z m) n).1 q)

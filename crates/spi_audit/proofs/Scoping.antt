@@ -1,11 +1,12 @@
 -- The changes of uses that fit are in scope, and where all pay no effect has a name out of scope.
-use Rattle.std.proofs.Common.{◌≡◌, refl, sym, ap, ◌∙◌, subst, ℕ, zero, suc, ◌+◌, ◌<◌, ◌≤◌, Bool, true, false, not, ◌||◌, List, [], ◌∷◌, ◌++◌, length, Option, Some, None, ◌⊎◌, ⊎_elim, arith}
+use Rattle.std.proofs.Common.{◌≡◌, refl, sym, ap, ◌∙◌, subst, ℕ, suc, ◌+◌, ◌<◌, Bool, true, false, not, ◌||◌, List, [], ◌∷◌, ◌++◌, length, Option, Some, None, ◌⊎◌, ⊎_elim, arith}
 use Rattle.std.specs.Prelude.{if◌then◌else◌, ⊤}
+use Rattle.std.proofs.lemmas.Bool.{not-true}
 use Rattle.spi_term.specs.Term.{Message, name, ends, checks, many, Effect, Ty, un, nonce, Process, check}
 use Rattle.spi_term.specs.Lists.{At}
 use Rattle.spi_term.specs.Names.{MessageOver, OfTy, OfProcess, TyOver, ProcessOver}
-use Rattle.spi_term.specs.Substitution.{process_map, put, ty_put}
-use Rattle.spi_term.proofs.Terms.{over_put_process, over_more_process, over_put_ty, over_more_ty}
+use Rattle.spi_term.specs.Substitution.{ty_put}
+use Rattle.spi_term.proofs.Terms.{over_more_process, over_put_ty, over_more_ty}
 use Rattle.spi_effect.specs.Made.{mentions, minus}
 use Rattle.spi_effect.proofs.Made.{or_false, and_true}
 use Rattle.spi_count.specs.Sums.{Below}
@@ -16,11 +17,11 @@ use Rattle.spi_rules.specs.Derivations.{RuleUse}
 use Rattle.spi_rules.specs.declared.rule.Rule.TheVariants.{ProcCheck}
 use Rattle.spi_rules.proofs.Typing.{length_extended, at_cases}
 use Rattle.spi_rules.proofs.Good.{good_over}
+use Rattle.spi_message.proofs.Deciding.{nonce_complete}
+use Rattle.spi_message.proofs.Opened.{over_enter}
 use Rattle.spi_audit.specs.Fits.{Subject, of_message, of_process, Fits, fits_name, fits_unit, fits_unit_un, fits_pair, fits_pair_un, fits_inl, fits_inl_un, fits_inr, fits_inr_un, fits_enc, fits_enc_un, fits_hash, fits_stop, fits_out, fits_in, fits_repeat, fits_split, fits_split_un, fits_match, fits_match_un, fits_case, fits_case_un, fits_decrypt, fits_decrypt_un, fits_check, fits_check_un, fits_begin, fits_end, fits_end_many, fits_cast, fits_cast_un, fits_new, fits_par, fits_sub}
-use Rattle.spi_message.specs.Forms.{enter}
 use Rattle.spi_audit.specs.Changes.{Change, nothing_done, no_effect, same_effect, one_left, two_left, served, chosen, checked, begun, ended, ended_many, casted, made, summed, subsumed_to, change_of, check_change, top_effect, effects_after, pays, run_changes, first_unpaid_change, before, own, IsScoped, AreScoped, scoped_none, scoped_next}
 use Rattle.spi_audit.specs.Walking.{Trace, trace_none, trace_use}
-use Rattle.spi_audit.proofs.Computed.{nonce_is, not_true}
 use Rattle.spi_count.proofs.Below.{bound_over, below_joined, below_one, below_minus, below_over, below_bound}
 
 -- effects with names in scope alone
@@ -46,22 +47,22 @@ below_change (summed k) ns [] c p a = elim a [ ]
 below_change (subsumed_to k fs) ns [] c p a = elim a [ ]
 below_change (chosen k) ns (es ∷ []) c p (below_next h a) = elim a [ ]
 below_change (summed k) ns (es ∷ []) c p (below_next h a) = elim a [ ]
-below_change (one_left k) ns (es ∷ st) c p (below_next h a) = below_next (below_bound k es h (not_true (mentions k es) p)) a
+below_change (one_left k) ns (es ∷ st) c p (below_next h a) = below_next (below_bound k es h (not-true (mentions k es) p)) a
 below_change (two_left k) ns (es ∷ st) c p (below_next h a) =
-    let r = or_false (mentions k es) (mentions (suc k) es) (not_true (mentions k es || mentions (suc k) es) p) in
+    let r = or_false (mentions k es) (mentions (suc k) es) (not-true (mentions k es || mentions (suc k) es) p) in
     below_next (below_bound k es (below_bound (suc k) es h r.1) r.0) a
-below_change (served k) ns (es ∷ st) c p (below_next h a) = below_next (below_bound k es h (not_true (mentions k es) (and_true _ _ p).1)) a
+below_change (served k) ns (es ∷ st) c p (below_next h a) = below_next (below_bound k es h (not-true (mentions k es) (and_true _ _ p).1)) a
 below_change (chosen k) ns (es ∷ (fs ∷ st)) c p (below_next h (below_next j a)) =
     let r = and_true (not (mentions k es)) (not (mentions k fs)) p in
-    below_next (below_joined es (minus fs es) (below_bound k es h (not_true (mentions k es) r.0)) (below_minus fs es (below_bound k fs j (not_true (mentions k fs) r.1)))) a
+    below_next (below_joined es (minus fs es) (below_bound k es h (not-true (mentions k es) r.0)) (below_minus fs es (below_bound k fs j (not-true (mentions k fs) r.1)))) a
 below_change (checked k m fs) ns (es ∷ st) c p (below_next h a) = below_next (below_joined (minus es fs) (checks m ∷ []) (below_minus es fs h) (below_one (checks m) c.0)) a
 below_change (begun k m) ns (es ∷ st) c p (below_next h a) = below_next (below_minus es (ends m ∷ (many m ∷ [])) h) a
 below_change (ended k m) ns (es ∷ st) c p (below_next h a) = below_next (below_joined es (ends m ∷ []) h (below_one (ends m) c)) a
 below_change (ended_many k m) ns (es ∷ st) c p (below_next h a) = below_next (below_joined es (many m ∷ []) h (below_one (many m) c)) a
-below_change (casted k fs) ns (es ∷ st) c p (below_next h a) = below_next (below_joined es fs (below_bound k es h (not_true (mentions k es) p)) c) a
+below_change (casted k fs) ns (es ∷ st) c p (below_next h a) = below_next (below_joined es fs (below_bound k es h (not-true (mentions k es) p)) c) a
 below_change (made k) ns (es ∷ st) c p (below_next h a) =
     let ds = minus es (checks (name k) ∷ []) in
-    below_next (below_bound k ds (below_minus es (checks (name k) ∷ []) h) (not_true (mentions k ds) p)) a
+    below_next (below_bound k ds (below_minus es (checks (name k) ∷ []) h) (not-true (mentions k ds) p)) a
 below_change (summed k) ns (es ∷ (fs ∷ st)) c p (below_next h (below_next j a)) = below_next (below_joined es fs h j) a
 below_change (subsumed_to k fs) ns (es ∷ st) c p (below_next h a) = below_next c a
 
@@ -115,12 +116,6 @@ env_more env t h o x u a =
     (λ b. over_more_ty (length env) (length (extended env t)) (omega (arith, l)) 0 u (h x u b))
     (λ r. subst (λ u. TyOver (length (extended env t)) u) (sym r.1) (over_more_ty (length env) (length (extended env t)) (omega (arith, l)) 0 t o))
     (at_cases env t a)
-
-over_enter : (b k n : ℕ) (p : Process) → k + b ≤ n → OfProcess (MessageOver n) b p → ProcessOver n (enter b k p)
-over_enter zero k n p l o = o
-over_enter (suc b) k n p l o =
-    let low : k < n = omega (arith, l) in
-    over_enter b (suc k) n (process_map (put (name k)) b p) (omega (arith, l)) (over_put_process n (name k) low b p o)
 
 over_one : (env : Env) (t : Ty) (p : Process) → OfProcess (MessageOver (length env)) 1 p → ProcessOver (length (extended env t)) (opened env p)
 over_one env t p o =
@@ -203,7 +198,7 @@ in_scope (fits_case_un {env = env} {p = p} {q = q}) o = record { scoped = tt; ov
 in_scope (fits_decrypt {env = env} {t = t} {p = p} g) o = record { scoped = tt; over = (tt, (tt, (under env t p o.0 o.1.0.1 o.1.1, tt))); behind = one_more env t; here = λ ss. refl }
 in_scope (fits_decrypt_un {env = env} {p = p}) o = record { scoped = tt; over = (tt, (tt, (under env un p o.0 tt o.1.1, tt))); behind = one_more env un; here = λ ss. refl }
 in_scope (fits_check {env = env} {m = m} {n = n} {p = p} {fs = fs} i) o =
-    subst (λ (x : Option Effect). IsScopedChange (check_change ProcCheck (length env) m x) (of_process env (check m n p)) (of_message env m un ∷ (of_process env p ∷ []))) (sym (nonce_is i))
+    subst (λ (x : Option Effect). IsScopedChange (check_change ProcCheck (length env) m x) (of_process env (check m n p)) (of_message env m un ∷ (of_process env p ∷ []))) (sym (nonce_complete i))
     (record { scoped = (bound_over (length env) 0 m o.1.0.0, nonce_below o.0 i); over = (tt, ((o.0, none (length env) p o.1.1), tt)); behind = λ ns. refl; here = λ ss. refl })
 in_scope (fits_check_un {env = env} {p = p}) o = record { scoped = tt; over = (tt, (tt, ((o.0, none (length env) p o.1.1), tt))); behind = λ ns. refl; here = λ ss. refl }
 in_scope (fits_begin {env = env} {m = m} {p = p} l) o = record { scoped = bound_over (length env) 0 m o.1.0; over = ((o.0, none (length env) p o.1.1), tt); behind = λ ns. refl; here = λ ss. refl }

@@ -1,19 +1,20 @@
 -- What the answer says, where each use fits.
-use Rattle.std.proofs.Common.{◌≡◌, refl, sym, ap, subst, ℕ, zero, suc, ◌+◌, ◌<◌, List, [], ◌∷◌, length, Option, None, inr, arith, map, true, false}
+use Rattle.std.proofs.Common.{◌≡◌, refl, sym, ap, subst, ℕ, ◌+◌, ◌<◌, List, [], ◌∷◌, length, Option, None, inr, arith, map, true, false}
 use Rattle.std.specs.Prelude.{Vec, vec_len, ◌==◌}
 use Rattle.std.specs.declared.alloc.Global.{Global}
 use Rattle.std.proofs.lemmas.Bool.{eqb-true, eqb-false}
 use Rattle.spi_term.specs.declared.term.Atom as Code
 use Rattle.spi_audit.proofs.Turning.{no_items}
-use Rattle.std.proofs.lemmas.List.{length-replicate}
-use Rattle.spi_term.specs.Term.{Effect, Ty, un, Process}
+use Rattle.spi_term.specs.Term.{Effect, Process}
 use Rattle.spi_term.specs.Names.{ProcessOver, TyOver}
-use Rattle.spi_term.specs.Lists.{At, at_first, at_later, in_first}
+use Rattle.spi_term.specs.Lists.{in_first}
 use Rattle.spi_term.specs.Counts.{count, SameEffect}
+use Rattle.spi_term.proofs.Counting.{in_count, count_none}
 use Rattle.spi_term.specs.View as View
 use Rattle.spi_rules.specs.Environment.{untrusted}
 use Rattle.spi_rules.specs.Derivations.{RuleUse, Proves, effect_uses}
 use Rattle.spi_rules.specs.Processes.{HasEffect}
+use Rattle.spi_rules.proofs.Typing.{length_untrusted, at_untrusted}
 use Rattle.spi_effect.proofs.Laws.{same_refl}
 use Rattle.spi_audit.specs.declared.audited.Audited.{Audited}
 use Rattle.spi_audit.specs.declared.audited.Audited.TheVariants.{Proved, WrongStep, Unpaid}
@@ -22,7 +23,6 @@ use Rattle.spi_audit.specs.Audit.{Judged, AllPay, FirstUnpaid, IsAudited}
 use Rattle.spi_audit.specs.Changes.{Change, run_changes, top_effect, first_unpaid_change, AreScoped}
 use Rattle.spi_audit.specs.Walking.{Trace}
 use Rattle.spi_audit.specs.Settled.{IsLeftOver, IsSettled}
-use Rattle.spi_audit.proofs.Holding.{in_count, count_none}
 use Rattle.spi_audit.proofs.Sound.{sound_one}
 use Rattle.spi_audit.proofs.Computed.{Verdict, trace_judged}
 use Rattle.spi_audit.proofs.Scoping.{EnvOver, trace_scoped}
@@ -30,7 +30,7 @@ use Rattle.spi_audit.proofs.Scoping.{EnvOver, trace_scoped}
 -- an effect with the counts of none
 pub same_nothing : (es : Effect) → SameEffect [] es → es ≡ []
 same_nothing [] h = refl
-same_nothing (a ∷ es) h = absurd (let e = h.at a in let z = count_none a in let p : 0 < count a (a ∷ es) = in_count in_first in omega (arith, e, z, p))
+same_nothing (a ∷ es) h = absurd (let e = h.at a in let z = count_none a in let p : 0 < count a (a ∷ es) = in_count a (a ∷ es) in_first in omega (arith, e, z, p))
 
 map_empty : {A B : Type 0} (f : A → B) (xs : List A) → map f xs ≡ [] → xs ≡ []
 map_empty f [] e = refl
@@ -48,16 +48,8 @@ left_settled cs Proved e h = (e, h)
 left_settled cs (WrongStep i) e h = absurd h
 left_settled cs (Unpaid f) e h = (e, h.0, h.1)
 
-at_untrusted : (n : ℕ) {x : ℕ} {t : Ty} → At (untrusted n) x t → t ≡ un
-at_untrusted zero w = elim w [ ]
-at_untrusted (suc n) at_first = refl
-at_untrusted (suc n) (at_later w) = at_untrusted n w
-
 env_over : (k : ℕ) → EnvOver (untrusted k)
 env_over k x t w = subst (λ t. TyOver (length (untrusted k)) t) (sym (at_untrusted k w)) tt
-
-length_untrusted : (k : ℕ) → length (untrusted k) ≡ k
-length_untrusted k = length-replicate k un
 
 pub untrusted_over : (k : ℕ) (p : Process) → ProcessOver k p → ProcessOver (length (untrusted k)) p
 untrusted_over k p o = subst (λ n. ProcessOver n p) (sym (length_untrusted k)) o

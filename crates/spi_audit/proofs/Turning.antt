@@ -3,6 +3,7 @@ use Rattle.std.proofs.Common.{◌≡◌, refl, sym, ap, ◌∙◌, subst, ℕ, s
 use Rattle.std.specs.Prelude.{Vec, vec_len}
 use Rattle.std.specs.declared.alloc.Global.{Global}
 use Rattle.std.proofs.lemmas.List.{reverse-append, nil_from_length}
+use Rattle.std.proofs.lemmas.Option.{slice_get_within}
 use Rattle.spi_term.specs.Term.{name, Atom, ends, checks, many, Effect, nonce}
 use Rattle.spi_effect.specs.Made.{minus, greater, mentions, is_within}
 use Rattle.spi_intern.specs.declared.store.Store.{Store}
@@ -13,7 +14,6 @@ use Rattle.spi_intern.specs.declared.atoms.AtomId.TheVariants.{End, Check, Many}
 use Rattle.spi_intern.specs.Atoms.{SaysAtom, says_end, says_check, says_many, AtomVec}
 use Rattle.spi_intern.specs.Meaning.{Means}
 use Rattle.spi_intern.specs.Table.{TellsAll}
-use Rattle.spi_intern.proofs.Lists.{get_below}
 use Rattle.spi_count.specs.Sums.{name_bound, Below}
 use Rattle.spi_count.specs.declared.keys.Keys.{Keys}
 use Rattle.spi_audit.specs.declared.accounts.Account.{Account}
@@ -285,13 +285,13 @@ pub check_place : {s : Store} {keys : Keys} {id : MsgId} {t : TyId} {acc : Accou
 check_place {s} {keys} {id} {t} {acc} b = go b.noted
   where
     go : {c : Change} → NotedAs s keys c (N.Check id t) → t.place < length s.types
-    go (noted_check g m) = get_below s.types t.place m.kind m.at
+    go (noted_check g m) = slice_get_within s.types t.place m.kind m.at
 
 pub cast_place : {s : Store} {keys : Keys} {i : ℕ} {t : TyId} {acc : Account} → IsBeforeOne s keys (N.Cast i t) acc → t.place < length s.types
 cast_place {s} {keys} {i} {t} {acc} b = go b.noted
   where
     go : {c : Change} → NotedAs s keys c (N.Cast i t) → t.place < length s.types
-    go (noted_cast m h) = get_below s.types t.place m.kind m.at
+    go (noted_cast m h) = slice_get_within s.types t.place m.kind m.at
 
 pub make_held : {s : Store} {keys : Keys} {i : ℕ} {id : MsgId} {acc : Account} (rest : Account) → IsBeforeOne s keys (N.Make i id) acc → AtomOut keys (Check id) acc rest → IsHeld s keys rest
 make_held {s} {keys} {i} {id} {acc} rest b out = go b.noted b.one

@@ -2,6 +2,7 @@
 use Rattle.std.proofs.Common.{◌≡◌, refl, sym, ap, ◌∙◌, subst, ℕ, ◌<◌, ◌≤◌, List, [], ◌∷◌, ◌++◌, length, take, reverse, Option, Some, None, arith, length-append, length-take}
 use Rattle.std.specs.Prelude.{slice_get}
 use Rattle.std.proofs.lemmas.List.{take-append-le, take_all}
+use Rattle.std.proofs.lemmas.Option.{slice_get_within}
 use Rattle.spi_term.specs.Term.{Message, Effect, Ty, nonce, Prefix, Checks, Casts, Branches, Pars, Process, leaf, prefix, fork}
 use Rattle.spi_term.specs.Spelling.{Shape}
 use Rattle.spi_term.specs.Arena.{scope_of}
@@ -14,7 +15,6 @@ use Rattle.spi_intern.specs.Meaning.{Means, Keeps}
 use Rattle.spi_intern.specs.declared.store.Store.{Store}
 use Rattle.spi_intern.specs.declared.messages.MsgId.{MsgId}
 use Rattle.spi_intern.specs.declared.types.TyId.{TyId}
-use Rattle.spi_intern.proofs.Lists.{get_below}
 use Rattle.spi_message.specs.Judging.{Numbered, Stands, IsKept}
 use Rattle.spi_message.specs.Tests.{nonce_of}
 use Rattle.spi_count.specs.declared.keys.Keys.{Keys}
@@ -94,7 +94,7 @@ at_message {s} {id = id} {t = t} (opens_message {m = m} {t = u} {ts = rest} a w)
 at_message (opens_later w) = elim w [ ]
 
 pub message_within : (j : Numbered) (ss : List Shape) (id : MsgId) (t : TyId) → IsOpen j ss (A.Message id t) → id.place < length j.store.messages
-message_within j ss id t w = let z = at_message w.opens in get_below j.store.messages id.place z.message z.at
+message_within j ss id t w = let z = at_message w.opens in slice_get_within j.store.messages id.place z.message z.at
 
 pub message_given : (j : Numbered) (ss : List Shape) (id : MsgId) (t : TyId) → IsOpen j ss (A.Message id t) → IsGiven j.store t.place
 message_given j ss id t w = let z = at_message w.opens in record { type = z.type; means = z.means }

@@ -1,11 +1,13 @@
 -- A use that fits: its premises, and what is kept of it.
-use Rattle.std.proofs.Common.{◌≡◌, refl, sym, ap, ◌∙◌, subst, ℕ, zero, suc, ◌+◌, ◌<◌, ◌≤◌, List, [], ◌∷◌, ◌++◌, length, drop, Option, Some, None}
+use Rattle.std.proofs.Common.{◌≡◌, refl, sym, ap, ◌∙◌, subst, ℕ, suc, ◌+◌, ◌<◌, ◌≤◌, List, [], ◌∷◌, ◌++◌, length, Option, Some, None}
 use Rattle.std.specs.Prelude.{slice_get}
 use Rattle.std.proofs.lemmas.List.{append-nil}
+use Rattle.std.proofs.lemmas.Option.{slice_get_within}
 use Rattle.spi_term.specs.Term.{Message, Effect, Ty, Fork, Branches, Pars, Process, leaf, prefix, fork, binds, fork_binds, process_size}
 use Rattle.spi_term.specs.Spelling.{Shape, leaf_at, prefix_at, fork_at, flat, numbered, name_message, under}
 use Rattle.spi_term.specs.Substitution.{leaf_map, prefix_map, fork_map}
 use Rattle.spi_term.specs.Arena.{scope_of}
+use Rattle.spi_term.proofs.Lists.{some_is, get_first}
 use Rattle.spi_rules.specs.Environment.{Env}
 use Rattle.spi_rules.specs.Good.{GoodEffect}
 use Rattle.spi_rules.specs.Derivations.{RuleUse}
@@ -17,7 +19,6 @@ use Rattle.spi_intern.specs.declared.types.TyId.{TyId}
 use Rattle.spi_intern.specs.Table.{TellsAll}
 use Rattle.spi_intern.specs.Atoms.{SaysAtom, AtomVec}
 use Rattle.spi_intern.specs.Meaning.{Keeps}
-use Rattle.spi_intern.proofs.Lists.{some_one, get_below}
 use Rattle.spi_message.specs.Judging.{Numbered, Stands, IsKept}
 use Rattle.spi_message.proofs.Standing.{stand_length}
 use Rattle.spi_count.specs.declared.keys.Keys.{Keys}
@@ -36,23 +37,17 @@ use Rattle.spi_audit.specs.Notes.{NotedAs, noted_taken, NotesNode}
 use Rattle.spi_audit.specs.Walking.{FitsMessage, FitsNode}
 use Rattle.spi_message.proofs.Opened.{name_none_prefix}
 use Rattle.spi_message.proofs.Tested.{stands_kept}
-use Rattle.spi_audit.proofs.Leading.{asked_keeps, bound_keeps}
+use Rattle.spi_audit.proofs.FormPremises.{asked_later, bound_later}
 
 -- a use that writes no effect, and one that writes one
 pub is_plain : (u : RuleUse) → u.taken ≡ None → plain u.rule ≡ u
 is_plain u q = ap (λ (o : Option Effect). let w : RuleUse = record { rule = u.rule; taken = o } in w) (sym q)
 
 pub is_subsumed : {u : RuleUse} {fs : Effect} → IsUse u → u.taken ≡ Some fs → subsumed fs ≡ u
-is_subsumed (sub_use gs) q = ap subsumed (sym (some_one q))
+is_subsumed (sub_use gs) q = ap subsumed (sym (some_is q))
 is_subsumed (other_use r n) q = absurd (cc)
 
 -- the node where a process stands
-get_first : (ss : List Shape) (i : ℕ) (x : Shape) (ys : List Shape) → drop i ss ≡ x ∷ ys → slice_get ss i ≡ Some x
-get_first [] zero x ys e = absurd (cc)
-get_first [] (suc i) x ys e = absurd (cc)
-get_first (y ∷ ss) zero x ys e = cc
-get_first (y ∷ ss) (suc i) x ys e = get_first ss i x ys e
-
 pub record NodeOfShape (e : Env) (p : Process) (x : Shape) : Type 0 where
   pub scope : scope_of x ≡ length e
   pub change : (r : Rule) → shape_change r e x ≡ form_change r e p
@@ -102,10 +97,10 @@ module _ {ss : List Shape} {i : ℕ} {e : Env} {p : Process} (l : Located ss i e
   front_there = get_first ss i front.first front.others (l.is ∙ front.are)
 
   pub node_of : {x : Shape} → slice_get ss i ≡ Some x → NodeOfShape e p x
-  node_of g = subst (λ x. NodeOfShape e p x) (some_one (sym front_there ∙ g)) front.node
+  node_of g = subst (λ x. NodeOfShape e p x) (some_is (sym front_there ∙ g)) front.node
 
   pub located_below : i < length ss
-  located_below = get_below ss i front.first front_there
+  located_below = slice_get_within ss i front.first front_there
 
   -- each node of few names in scope
   pub few_names : ((i : ℕ) (x : Shape) → slice_get ss i ≡ Some x → scope_of x ≤ 300000) → length e ≤ 300000
@@ -132,10 +127,10 @@ message_fits old new u id t q n a = record {
 -- what is asked stays as the store grows
 begun_keeps : {s r : Store} {ss : List Shape} {env : Env} {qs : List Asked} {ts : List Subject} → Keeps s r → AreBegun s ss env qs ts → AreBegun r ss env qs ts
 begun_keeps k begun_none = begun_none
-begun_keeps k (begun_next a rest) = begun_next (record { node = a.node; names = a.names; types = a.types; is = a.is; bound = bound_keeps k a.bound; env_is = a.env_is; located = a.located }) (begun_keeps k rest)
+begun_keeps k (begun_next a rest) = begun_next (record { node = a.node; names = a.names; types = a.types; is = a.is; bound = bound_later k a.bound; env_is = a.env_is; located = a.located }) (begun_keeps k rest)
 
 open_keeps : {s r : Store} {ss : List Shape} {env : Env} {qs : List Asked} {ts : List Subject} → Keeps s r → AreOpen s ss env qs ts → AreOpen r ss env qs ts
-open_keeps k (open_message a rest) = open_message (asked_keeps k a) (open_keeps k rest)
+open_keeps k (open_message a rest) = open_message (asked_later k a) (open_keeps k rest)
 open_keeps k (open_processes w) = open_processes (begun_keeps k w)
 
 -- a use of ProcSub

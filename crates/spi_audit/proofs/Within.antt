@@ -4,10 +4,11 @@ use Rattle.std.specs.Prelude.{if◌then◌else◌}
 use Rattle.std.specs.BTreeMap.{BTreeMap}
 use Rattle.spi_term.specs.Term.{Message, Atom, ends, checks, many, Effect}
 use Rattle.spi_term.specs.Counts.{count}
+use Rattle.spi_term.proofs.Counting.{count_in}
 use Rattle.spi_effect.specs.Made.{is_within}
 use Rattle.spi_effect.proofs.Made.{is_within_sound, is_within_complete, and_true, both_true}
 use Rattle.spi_intern.specs.declared.store.Store.{Store}
-use Rattle.spi_intern.proofs.Lists.{truths}
+use Rattle.spi_term.proofs.Choices.{truths}
 use Rattle.spi_count.specs.Counts.{count_of, IsNothing}
 use Rattle.spi_count.specs.Sums.{name_bound, key_of, kind_of_atom, part, Puts, Below}
 use Rattle.spi_count.specs.declared.sum.AtomKind.{AtomKind}
@@ -19,7 +20,8 @@ use Rattle.spi_count.specs.declared.keys.Keys.{Keys}
 use Rattle.spi_count.specs.Keeping.{with_keys, IsKeyed}
 use Rattle.spi_count.specs.Adding.{SumOf}
 use Rattle.spi_audit.specs.Accounts.{HeldBy, outer}
-use Rattle.spi_audit.proofs.Holding.{zero_or, count_in, below_none, last_free, bound_of, outer_true}
+use Rattle.spi_count.proofs.Standing.{zero_or}
+use Rattle.spi_audit.proofs.Holding.{below_none, last_free, bound_of, outer_true}
 use Rattle.spi_intern.specs.Parts.{message_of}
 
 -- what was taken out is counted in b no lower

@@ -38,7 +38,7 @@ place_is k n (many m) i h = absurd (cc)
 pub place_small : (k n : ℕ) (a : Atom) (i : ℕ) → place_of_atom k n a ≡ Some i → i < n
 place_small k n a i h = (place_is k n a i h).1
 
-same_refl : (w : Option ℕ) → same_place w w ≡ true
+pub same_refl : (w : Option ℕ) → same_place w w ≡ true
 same_refl None = refl
 same_refl (Some i) = eq-eqb i i refl
 

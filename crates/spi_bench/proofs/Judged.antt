@@ -4,7 +4,7 @@ use Rattle.spi_term.specs.Term.{Ty}
 use Rattle.spi_rules.specs.Environment.{Env, extended, untrusted}
 use Rattle.spi_rules.specs.Good.{GoodTy}
 use Rattle.spi_rules.specs.Processes.{IsGenerative}
-use Rattle.spi_infer.proofs.Descending.{length_untrusted}
+use Rattle.spi_rules.proofs.Typing.{length_untrusted}
 use Rattle.spi_message.specs.Judging.{Numbered, Stands}
 use Rattle.spi_bench.specs.declared.slot.Slot.{Slot}
 use Rattle.spi_bench.specs.Slots.{slot_names, AreNamed, AreInferred, IsJudgedBench}

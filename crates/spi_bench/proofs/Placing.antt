@@ -1,6 +1,6 @@
 -- Slots under names, as they change.
-use Rattle.std.proofs.Common.{◌≡◌, ◌≢◌, ◌⊎◌, inl, inr, refl, sym, ap, ◌∙◌, subst, ℕ, zero, suc, ◌<◌, Bool, true, false, eqb, List, [], ◌∷◌, ◌++◌, length, Option, Some, None, arith, eqb-true, length-append}
-use Rattle.std.proofs.lemmas.Bool.{eqb-false}
+use Rattle.std.proofs.Common.{◌≡◌, ◌≢◌, ◌⊎◌, inl, inr, refl, sym, ap, ◌∙◌, subst, ℕ, zero, suc, ◌<◌, Bool, true, false, List, [], ◌∷◌, ◌++◌, length, Option, Some, None, arith, length-append}
+use Rattle.std.proofs.lemmas.Bool.{cases_eq}
 use Rattle.std.specs.Prelude.{slice_get, slice_set, Result, Ok, Err, IfOk, OnErr}
 use Rattle.std.specs.Str.{bytes_eq}
 use Rattle.std.specs.HashMap.{HashMap}
@@ -31,13 +31,6 @@ other_text n m h = other (told_text n m (bytes_eq n m) refl)
     other : (n ≡ m) ⊎ ((n ≢ m) × (bytes_eq n m ≡ false)) → bytes_eq n m ≡ false
     other (inl e) = absurd (h e)
     other (inr p) = p.1
-
-told_place : (i j : ℕ) → (i ≡ j) ⊎ (i ≢ j)
-told_place i j = go (eqb i j) refl
-  where
-    go : (b : Bool) → eqb i j ≡ b → (i ≡ j) ⊎ (i ≢ j)
-    go true e = inl (eqb-true i j e)
-    go false e = inr (eqb-false i j e)
 
 -- elements
 get_here : {A : Type 0} (xs : List A) (i : ℕ) (a : A) → i < length xs → slice_get (slice_set xs i a) i ≡ Some a
@@ -198,7 +191,7 @@ module _ (n : List ℕ) (i : ℕ) (ss : List (Option Slot)) (at to : List ℕ �
   from_there m j (u, e, f) q = (u, sym (get_there ss i j x q) ∙ e, f)
 
   pub named_after : AreNamed (slice_set ss i x) to
-  named_after m j = (forth (told_text n m (bytes_eq n m) refl), back (told_place j i))
+  named_after m j = (forth (told_text n m (bytes_eq n m) refl), back (cases_eq j i))
     where
       forth : (n ≡ m) ⊎ ((n ≢ m) × (bytes_eq n m ≡ false)) → to m ≡ Some j → SlotStandsAt (slice_set ss i x) j m
       forth (inl q) e = subst (λ p. SlotStandsAt (slice_set ss i x) j p) q (stands_here j (sym here ∙ ap to q ∙ e))
@@ -217,7 +210,7 @@ named_padded ss at h m j = (λ e. let s = (h m j).0 e in (s.0, get_kept ss j s.0
 
 -- what is inferred of each slot
 pub inferred_after : (env : Env) (count i : ℕ) (ss : List (Option Slot)) (x : Option Slot) → i < length ss → AreInferred env count ss → ((u : Slot) → x ≡ Some u → IsInferred env count u) → AreInferred env count (slice_set ss i x)
-inferred_after env count i ss x l h g j u e = go (told_place j i)
+inferred_after env count i ss x l h g j u e = go (cases_eq j i)
   where
     go : (j ≡ i) ⊎ (j ≢ i) → IsInferred env count u
     go (inl q) = let a : slice_get (slice_set ss i x) i ≡ Some (Some u) = subst (λ k. slice_get (slice_set ss i x) k ≡ Some (Some u)) q e in g u (let d = get_here ss i x l in cc)

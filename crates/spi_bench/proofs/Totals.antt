@@ -2,9 +2,9 @@
 use Rattle.std.proofs.Common.{◌≡◌, refl, sym, ap, ◌∙◌, subst, ℕ, ◌+◌, ◌<◌, ◌≤◌, List, [], ◌∷◌, ◌++◌, length, Option, Some, None, arith, le_refl}
 use Rattle.std.specs.Prelude.{slice_set, slice_index_or}
 use Rattle.std.proofs.lemmas.List.Sums.{sum_by-set, sum_by_push, sum_by-le-sum_by, get_or-le-sum_by, sum_by-cons}
-use Rattle.spi_term.specs.Term.{Process, process_size, leaf, prefix, fork}
 use Rattle.spi_term.specs.View.{effect}
 use Rattle.spi_term.specs.declared.term.Effect as D
+use Rattle.spi_term.proofs.Sizes.{some_process}
 use Rattle.spi_bench.specs.Sums.{Measure, nodes, blocked, atoms, placed, atom_times, of_least, if_none, of_slot, total, counted, IsMeasure, shared_in, AddsSlot, AreSums}
 use Rattle.spi_bench.specs.Parts.{nodes_in_parts}
 use Rattle.spi_bench.specs.Slots.{slot_parts}
@@ -12,19 +12,14 @@ use Rattle.spi_bench.specs.declared.slot.Slot.{Slot}
 use Rattle.spi_bench.specs.declared.sums.Sums.{Sums}
 use Rattle.spi_bench.proofs.Counted.{times_le}
 
--- a part has a node at least, and a least effect no more atoms at a place than it has
-some_node : (p : Process) → 1 ≤ process_size p
-some_node (leaf l) = le_refl 1
-some_node (prefix b p) = omega arith
-some_node (fork b p q) = omega arith
-
+-- no more parts are blocked than there are nodes, and no more atoms stand at a place than in all
 if_none_le : (o : Option D.Effect) → if_none o ≤ 1
 if_none_le None = le_refl 1
 if_none_le (Some e) = omega arith
 
 blocked_le : (k n : ℕ) (s : Option Slot) → of_slot k n blocked s ≤ of_slot k n nodes s
 blocked_le k n None = le_refl 0
-blocked_le k n (Some s) = let a = if_none_le s.least in let b = some_node s.part.process in omega arith
+blocked_le k n (Some s) = let a = if_none_le s.least in let b = some_process s.part.process in omega arith
 
 of_least_le : (k n : ℕ) (w : Option ℕ) (o : Option D.Effect) → of_least (atom_times k n w) o ≤ of_least length o
 of_least_le k n w None = le_refl 0

@@ -1,5 +1,5 @@
 -- The verdict from what is counted.
-use Rattle.std.proofs.Common.{◌≡◌, ◌↔◌, refl, sym, ap, ◌∙◌, subst, ℕ, zero, suc, ◌+◌, ◌-◌, ◌<◌, ◌≤◌, Bool, true, false, eqb, nat_lt, if◌then◌else◌, List, [], ◌∷◌, map, length, Option, Some, None, arith, le_trans, ltb-true, ltb-false, eqb-true, eq-eqb, IsTrue}
+use Rattle.std.proofs.Common.{◌≡◌, ◌↔◌, refl, sym, ap, ◌∙◌, subst, ℕ, zero, suc, ◌+◌, ◌-◌, ◌<◌, ◌≤◌, Bool, true, false, nat_lt, if◌then◌else◌, List, [], ◌∷◌, map, length, Option, Some, None, arith, le_trans, ltb-true, ltb-false, eqb-true, IsTrue}
 use Rattle.std.proofs.lemmas.List.Sums.{sum_by-cons}
 use Rattle.spi_term.specs.declared.term.Effect as D
 use Rattle.spi_term.specs.View.{effect}
@@ -21,7 +21,7 @@ use Rattle.spi_bench.specs.Sums.{blocked, placed, shared_name, place_of_atom, sa
 use Rattle.spi_message.specs.Judging.{Numbered}
 use Rattle.spi_bench.specs.Slots.{IsJudgedBench, slot_parts, AreInferred, HaveNoneTwice, slot_names}
 use Rattle.spi_bench.specs.declared.slot.Slot.{Slot}
-use Rattle.spi_bench.proofs.Counted.{place_is, times_append}
+use Rattle.spi_bench.proofs.Counted.{place_is, same_refl, times_append}
 use Rattle.spi_bench.proofs.Wholes.{decided, together_least, together_is_least}
 
 at_here : (k n x : ℕ) (a b : Bool) → k ≤ x → x < k + n → nat_lt x k ≡ a → nat_lt (x - k) n ≡ b → (if a then None else (if b then Some (x - k) else None)) ≡ None → ⊥
@@ -71,19 +71,12 @@ each_has k zero (t ∷ ts) l = subst (λ j. In (checks (name j)) (each_check k (
 each_has k (suc i) (t ∷ ts) l = in_later (subst (λ j. In (checks (name j)) (each_check (suc k) ts)) (let e : suc k + i ≡ k + suc i = omega arith in e) (each_has (suc k) i ts (omega arith)))
 
 -- how often an atom stands, and how often its place is counted
-same_self : (w : Option ℕ) → same_place w w ≡ true
-same_self None = refl
-same_self (Some i) = self i
-  where
-    self : (j : ℕ) → eqb j j ≡ true
-    self j = eq-eqb j j refl
-
 tally_le : (k n : ℕ) (a : Atom) (es : Effect) → tally a es ≤ atom_times k n (place_of_atom k n a) es
 tally_le k n a [] = omega arith
 tally_le k n a (b ∷ es) = more (same_atom a b) refl (tally_le k n a es)
   where
     more : (t : Bool) → same_atom a b ≡ t → tally a es ≤ atom_times k n (place_of_atom k n a) es → (if t then 1 else 0) + tally a es ≤ (if same_place (place_of_atom k n b) (place_of_atom k n a) then 1 else 0) + atom_times k n (place_of_atom k n a) es
-    more true e h = let q : same_place (place_of_atom k n b) (place_of_atom k n a) ≡ true = subst (λ c. same_place (place_of_atom k n c) (place_of_atom k n a) ≡ true) (same_atom_true a b e) (same_self (place_of_atom k n a)) in rw q (omega arith)
+    more true e h = let q : same_place (place_of_atom k n b) (place_of_atom k n a) ≡ true = subst (λ c. same_place (place_of_atom k n c) (place_of_atom k n a) ≡ true) (same_atom_true a b e) (same_refl (place_of_atom k n a)) in rw q (omega arith)
     more false e h = omega arith
 
 place_true : (v w : Option ℕ) → same_place v w ≡ true → v ≡ w

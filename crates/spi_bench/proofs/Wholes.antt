@@ -11,11 +11,11 @@ use Rattle.spi_rules.specs.Good.{GoodTy, good_none}
 use Rattle.spi_rules.specs.Derivations.{Derivable}
 use Rattle.spi_rules.specs.Processes.{IsGenerative, proc_sub}
 use Rattle.spi_rules.specs.Least.{Least}
+use Rattle.spi_rules.proofs.Typing.{length_untrusted}
 use Rattle.spi_rules.proofs.Paying.{Pays, pays_new, pays_par, has_pays, pays_more, flip}
 use Rattle.spi_rules.proofs.Having.{pays_has}
 use Rattle.spi_rules.proofs.Least.{LeastOf, least_of, least_is, par_least, stop_least}
 use Rattle.spi_infer.proofs.Deriving.{least_or_none}
-use Rattle.spi_infer.proofs.Descending.{length_untrusted}
 use Rattle.spi_bench.specs.Whole.{indexed_message, new_named, together, whole_process_of, AreOver, AreShared, each_check, sum_of, AreLeast}
 use Rattle.spi_bench.proofs.Named.{opened_back, over_bound}
 

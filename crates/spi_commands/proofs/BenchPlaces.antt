@@ -11,8 +11,7 @@ use Rattle.spi_tree.specs.Pieces.{Piece, opens, cell, closes, a_token, a_number,
 use Rattle.spi_parse.specs.Formed.{whole_process}
 use Rattle.spi_parts.proofs.Behind.{msg_behind, ty_behind, decl_behind}
 use Rattle.spi_term.specs.Lists.{In, in_first, in_later}
-use Rattle.spi_term.proofs.Lists.{in_cases, in_append}
-use Rattle.spi_trace.proofs.Seen.{in_before}
+use Rattle.spi_term.proofs.Lists.{in_cases, in_append, get_in, in_left, in_right}
 use Rattle.spi_scope.specs.declared.fault.ScopeFault.{ScopeFault}
 use Rattle.spi_scope.specs.declared.fault.ScopeFault.TheVariants as scope
 use Rattle.spi_scope.specs.First.{HasFirst}
@@ -29,7 +28,6 @@ use Rattle.spi_workbench.specs.Reading.{behind_shared, file_with, heading_file}
 use Rattle.spi_workbench.specs.Answers.{edit_span, IsEditRefused, wrong_part, too_large, unknown, RefusesEdits, too_many_shared, wrong_heading, too_many_edits, wrong_edit}
 use Rattle.spi_workbench.specs.declared.answer.Refusal.{Refusal}
 use Rattle.spi_report.specs.Names.{name_of}
-use Rattle.spi_fault.proofs.Blaming.{get_in}
 use Rattle.spi_commands.specs.Benching.{IsBenchOf, bench_number, bench_place, IsUnjudged, unjudged, RefusesBench}
 use Rattle.spi_commands.proofs.FileRefusals.{opens_within, unlexed_within, unparsed_within, unlexed_named, unparsed_named, scope_named}
 
@@ -59,10 +57,6 @@ in_starts m (opens from ∷ ps) i =
     ⊎_elim (λ (e : m ≡ from). subst (λ (n : ℕ). In (opens n) (opens from ∷ ps)) (sym e) in_first) (λ (j : In m (piece_starts ps)). in_later (in_starts m ps j)) (in_cases i)
 in_starts m (cell k deep ∷ ps) i = in_later (in_starts m ps i)
 in_starts m (closes to ∷ ps) i = in_later (in_starts m ps i)
-
-in_right : {A : Type 0} {x : A} (xs : List A) {ys : List A} → In x ys → In x (xs ++ ys)
-in_right [] i = i
-in_right (y ∷ xs) i = in_later (in_right xs i)
 
 -- ---- a process begins its nodes and words at the same places, whatever its level
 
@@ -156,7 +150,7 @@ module _ {X : Type 0} (piece : X → List Piece → List Piece) (behind : (x : X
   in_each : (xs : List X) (x : X) (m : ℕ) → In x xs → In m (piece_starts (piece x [])) → In m (piece_starts (each_pieces piece xs []))
   in_each (y ∷ xs) x m i j =
       subst (λ (l : List ℕ). In m l) (sym (ap piece_starts (behind y (each_pieces piece xs [])) ∙ starts_append (piece y []) (each_pieces piece xs [])))
-      (⊎_elim (λ (e : x ≡ y). in_before (piece_starts (each_pieces piece xs [])) (subst (λ (z : X). In m (piece_starts (piece z []))) e j)) (λ (k : In x xs). in_right (piece_starts (piece y [])) (in_each xs x m k j)) (in_cases i))
+      (⊎_elim (λ (e : x ≡ y). in_left (piece_starts (each_pieces piece xs [])) (subst (λ (z : X). In m (piece_starts (piece z []))) e j)) (λ (k : In x xs). in_right (piece_starts (piece y [])) (in_each xs x m k j)) (in_cases i))
   in_each [] x m i j = elim i [ ]
 
 -- ---- the places are in the bytes
@@ -167,13 +161,13 @@ module _ (bytes : List ℕ) (b : Bench) (is : IsBenchOf bytes b) where
 
   placed_in : (m : ℕ) (ps : List Piece) → In (opens m) ps → In (opens m) (placed b.span ps)
   placed_in m [] i = elim i [ ]
-  placed_in m (p ∷ ps) i = in_later (in_before (closes b.span.to ∷ []) i)
+  placed_in m (p ∷ ps) i = in_later (in_left (closes b.span.to ∷ []) i)
 
   starts_here : (m : ℕ) → In m (decl_starts b ++ (shared_starts b ++ edit_starts b)) → m ≤ length bytes
   starts_here m i = opens_in m (placed_in m (bench_pieces b) (in_starts m (bench_pieces b) (subst (λ (l : List ℕ). In m l) (sym (bench_starts b)) i)))
 
   in_shared : (m : ℕ) → In m (shared_starts b) → m ≤ length bytes
-  in_shared m i = starts_here m (in_right (decl_starts b) (in_before (edit_starts b) i))
+  in_shared m i = starts_here m (in_right (decl_starts b) (in_left (edit_starts b) i))
 
   in_edits : (m : ℕ) → In m (edit_starts b) → m ≤ length bytes
   in_edits m i = starts_here m (in_right (decl_starts b) (in_right (shared_starts b) i))
@@ -197,7 +191,7 @@ module _ (bytes : List ℕ) (b : Bench) (is : IsBenchOf bytes b) where
       names m i = ⊎_elim (λ (j : In m (shared_starts b)). in_shared m j) (λ (j : In m (piece_starts (whole_process p))). part m j) (in_append (shared_starts b) i)
 
       body : (m : ℕ) → In m (decl_starts b ++ (shared_starts b ++ piece_starts (whole_process p))) → m ≤ length bytes
-      body m i = ⊎_elim (λ (j : In m (decl_starts b)). starts_here m (in_before (shared_starts b ++ edit_starts b) j)) (λ (j : In m (shared_starts b ++ piece_starts (whole_process p))). names m j) (in_append (decl_starts b) i)
+      body m i = ⊎_elim (λ (j : In m (decl_starts b)). starts_here m (in_left (shared_starts b ++ edit_starts b) j)) (λ (j : In m (shared_starts b ++ piece_starts (whole_process p))). names m j) (in_append (decl_starts b) i)
 
       all : (m : ℕ) → In m (b.span.from ∷ (decl_starts b ++ (shared_starts b ++ piece_starts (whole_process p)))) → m ≤ length bytes
       all m i = ⊎_elim (λ (e : m ≡ b.span.from). let s = span_here in omega (arith, e, s)) (λ (j : In m (decl_starts b ++ (shared_starts b ++ piece_starts (whole_process p)))). body m j) (in_cases i)
@@ -209,7 +203,7 @@ module _ (bytes : List ℕ) (b : Bench) (is : IsBenchOf bytes b) where
   part_in : (s : Span) (w : SWord) (p : t.Proc) (m : ℕ) → In m (piece_starts (whole_process p)) → In m (piece_starts (edit_pieces (puts s w p) []))
   part_in s w p m i =
       let r : List Piece = a_mark Rattle.spi_lex.specs.declared.token.Mark.TheVariants.BraceClose (closes s.to ∷ []) in
-      in_later (in_later (subst (λ (l : List ℕ). In m l) (sym (ap piece_starts (Rattle.spi_parts.proofs.Behind.proc_behind (at_level 0) p r) ∙ starts_append (whole_process p) r)) (in_before (piece_starts r) i)))
+      in_later (in_later (subst (λ (l : List ℕ). In m l) (sym (ap piece_starts (Rattle.spi_parts.proofs.Behind.proc_behind (at_level 0) p r) ∙ starts_append (whole_process p) r)) (in_left (piece_starts r) i)))
 
   among : (before after : List Edit) (e : Edit) → b.edits ≡ before ++ e ∷ after → In e b.edits
   among before after e cut = subst (λ (l : List Edit). In e l) (sym cut) (in_right before in_first)

@@ -6,6 +6,7 @@ use Rattle.spi_lex.proofs.Lexed.{lexed}
 use Rattle.spi_tree.specs.Trees as t
 use Rattle.spi_tree.specs.Pieces.{Piece, kinds_in, ends, steps_pieces, schedule_pieces, derivation_pieces}
 use Rattle.spi_parse.specs.Formed.{whole_file}
+use Rattle.spi_parse.proofs.Wholes.{kinds_count}
 use Rattle.spi_term.specs.Spelling.{Spelling}
 use Rattle.spi_term.specs.Names.{ProcessOver}
 use Rattle.spi_term.specs.Term.{Process}
@@ -19,14 +20,15 @@ use Rattle.spi_scope.specs.Points.{in_order, decls_points, body_points, all_name
 use Rattle.spi_scope.specs.First.{count_points, Clean, IsClean}
 use Rattle.spi_scope.specs.Files.{meant}
 use Rattle.spi_scope.specs.StandsFor.{Meant, StandsFor, over_free, opponent_over, schedule_in}
+use Rattle.spi_scope.proofs.Firsts.{counted_few}
 use Rattle.spi_scope.proofs.Indexing.{all_over, nodes_spell}
 use Rattle.spi_scope.proofs.Made.{few_names as few_declared}
 use Rattle.spi_spell.proofs.Shallow.{clean_front}
-use Rattle.spi_spell.proofs.Weighed.{runs, counted_few}
+use Rattle.spi_spell.proofs.Weighed.{runs}
 use Rattle.spi_commands.specs.Spelled.{limit, IsTreeOf}
 use Rattle.spi_commands.specs.Reading.{IsRead}
 use Rattle.spi_commands.proofs.FilePieces as Past
-use Rattle.spi_commands.proofs.FileRefusals.{HaveOwnTokens, longer_on, kinds_long, tokens_within, spells_kinds}
+use Rattle.spi_commands.proofs.FileRefusals.{HaveOwnTokens, longer_on, tokens_within, spells_kinds}
 
 -- process and opponent are over the free names
 is_over : (tree : t.File) (p : t.Proc) → ProcessOver (over_free (all_types [] [] tree.decls) (all_names [] tree.decls) p).names (over_free (all_types [] [] tree.decls) (all_names [] tree.decls) p).process
@@ -95,7 +97,7 @@ few_steps bytes tree steps is e =
     let n : ℕ = length (steps_of_tree tree.schedule) in
     let long = Past.past_body {P = HaveOwnTokens n} (longer_on n) tree (schedule_long tree.schedule (derivation_pieces tree.derivation (ends tree.span []))) in
     let same : kinds_in (whole_file tree) ≡ kinds_of is.tokens = spells_kinds 0 (whole_file tree) is.tokens is.spelled in
-    let each : length (kinds_of is.tokens) ≡ length is.tokens = kinds_long is.tokens in
+    let each : length (kinds_of is.tokens) ≡ length is.tokens = kinds_count is.tokens in
     let most = tokens_within 0 (length bytes) is.tokens (lexed bytes is.tokens is.lexed).1 in
     let some : n ≤ length (kinds_of is.tokens) = subst (λ ks. n ≤ length ks) same long in
     omega (arith, some, each, most, is.within, same_length tree.schedule steps e)

@@ -8,12 +8,11 @@ use Rattle.spi_tree.specs.Trees as t
 use Rattle.spi_tree.specs.Pieces.{Piece, opens, msg_pieces, ty_pieces, Place, in_seq, at_level, below, beside_place, level_of, binder_pieces, proc_pieces, decls_pieces, steps_pieces, opponent_pieces, schedule_pieces, file_pieces}
 use Rattle.spi_parse.specs.Formed.{whole_file}
 use Rattle.spi_term.specs.Lists.{In, in_first, in_later}
-use Rattle.spi_term.proofs.Lists.{in_cases, in_append}
+use Rattle.spi_term.proofs.Lists.{in_cases, in_append, get_in}
 use Rattle.spi_scope.specs.Marks.{places}
 use Rattle.spi_scope.specs.Parts.{step_span}
 use Rattle.spi_scope.specs.Files.{opponent_places, step_places}
 use Rattle.spi_scope.specs.Places.{or_nowhere, place_in}
-use Rattle.spi_fault.proofs.Blaming.{get_in}
 use Rattle.spi_commands.specs.Spelled.{IsTreeOf}
 use Rattle.spi_commands.specs.NoLine.{place_at}
 use Rattle.spi_commands.specs.Beside.{opponent_at}

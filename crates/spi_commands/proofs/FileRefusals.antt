@@ -147,10 +147,6 @@ longer_on k (opens from) r h = h
 longer_on k (cell kind deep) r h = omega (arith, h)
 longer_on k (closes to) r h = h
 
-pub kinds_long : (ts : List Token) → length (kinds_of ts) ≡ length ts
-kinds_long [] = refl
-kinds_long (token ∷ ts) = ap suc (kinds_long ts)
-
 -- what spelled pieces tell
 pub spells_kinds : (e : ℕ) (ps : List Part) (ts : List Token) → Spells [] e ps ts → kinds_in ps ≡ kinds_of ts
 spells_kinds e [] ts h = ap kinds_of (sym h)

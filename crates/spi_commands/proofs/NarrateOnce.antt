@@ -22,7 +22,7 @@ use Rattle.spi_commands.specs.Canonical.{IsPrint}
 use Rattle.spi_commands.specs.Refusals.{IsUnlexed, IsUnparsed, too_long, not_utf8, bad_char, bad_number, name_too_long, syntax, too_deep}
 use Rattle.spi_narrate.specs.declared.fault.NarrateFault.TheVariants.{UnknownRole, RoleTwice, NarrationTooLarge}
 use Rattle.spi_commands.specs.Narrating.{IsNarrationOf, SpellsNarration, IsFaulty, unknown_role, role_twice, narration_too_large, IsNarrationUntold, untold, RefusesNarrate, SpellsUntold, SpellsLongTelling}
-use Rattle.spi_commands.proofs.FileRefusals.{OneLexing, spells_kinds, spells_within}
+use Rattle.spi_commands.proofs.FileRefusals.{OneLexing, spells_kinds, spells_within, same_tokens}
 use Rattle.spi_commands.proofs.AnswerText.{long_of}
 
 abbrev pub OneNarration : Type 0
@@ -40,9 +40,6 @@ pub record NarrationFacts : Type 0 where
   pub told : (x : n.Narration) (told other : Meant) → IsTold x told → IsTold x other → told ≡ other
   pub untold : (bytes : List ℕ) (number : ℕ) (offset : Option ℕ) (shown : List ℕ) → RefusesNarrate bytes number offset shown → SpellsUntold bytes ⊎ SpellsLongTelling bytes
   pub reads : (bytes : List ℕ) (x : n.Narration) (told : Meant) (text : List ℕ) → SpellsNarration bytes x → IsTold x told → IsPrint told text → SpellsFile text told
-
-same_tokens : OneLexing → (bytes : List ℕ) (ts us : List Token) → Lexes bytes (Ok ts) → Lexes bytes (Ok us) → ts ≡ us
-same_tokens one bytes ts us h k = let e : Ok ts ≡ Ok us = one bytes (Ok ts) (Ok us) h k in cc
 
 pub one_narration_of : OneLexing → OneNarration → (bytes : List ℕ) (x y : n.Narration) → IsNarrationOf bytes x → IsNarrationOf bytes y → x ≡ y
 one_narration_of lexing one bytes x y a b =

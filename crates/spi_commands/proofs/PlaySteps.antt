@@ -2,7 +2,7 @@
 use Rattle.std.proofs.Common.{◌≡◌, ℕ, ◌+◌, ◌<◌, ◌≤◌, List, [], ◌∷◌, ◌++◌, length, length-append, Option, refl, sym, ap, ◌∙◌, subst, subst₂, arith}
 use Rattle.std.proofs.lemmas.List.Elements.{All-nil, All-cons}
 use Rattle.std.specs.List.{All}
-use Rattle.spi_trace.proofs.Seen.{at_within}
+use Rattle.spi_term.proofs.Lists.{at_below}
 use Rattle.spi_term.specs.Term.{Message}
 use Rattle.spi_know.specs.Sent.{handed}
 use Rattle.spi_run.specs.Reduction.{Configuration, Step, Event, Takes, takes_act, takes_talk}
@@ -30,10 +30,10 @@ replays_wider most h (replays_step t r) =
 
 -- a step names places that are there
 low_places : {c d : Configuration} {s : Step} {e : Option Event} → Takes c s e d → length c.places ≤ 5000 → HasLowPlaces s
-low_places (takes_act a x) few = let i = at_within a in omega (arith, few, i)
+low_places (takes_act a x) few = let i = at_below a in omega (arith, few, i)
 low_places (takes_talk a b x) few =
-    let i = at_within a in
-    let j = at_within b in
+    let i = at_below a in
+    let j = at_below b in
     (omega (arith, few, i), omega (arith, few, j))
 
 replays_low : {p q : Pooled} {ss : List Step} {es : List Event} {ms : List Message} → length p.configuration.places ≤ p.most → p.most ≤ 5000 → ReplaysWithTalks p ss es ms q → All HasLowPlaces ss

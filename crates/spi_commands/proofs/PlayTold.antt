@@ -1,5 +1,5 @@
 -- A play in which all that were asked had told their ways before is the only one.
-use Rattle.std.proofs.Common.{◌≡◌, ◌≢◌, ℕ, ◌+◌, ◌<◌, ◌≤◌, List, [], ◌∷◌, Option, Some, None, map, length, slice_set, slice_get, zero, suc, take, drop, refl, ap, sym, ◌∙◌, subst, inl, inr, arith}
+use Rattle.std.proofs.Common.{◌≡◌, ◌≢◌, ℕ, ◌+◌, ◌<◌, ◌≤◌, List, [], ◌∷◌, Option, Some, None, map, length, slice_get, zero, suc, take, drop, refl, ap, sym, ◌∙◌, subst, inl, inr, arith}
 use Rattle.std.specs.Prelude.{All, IfSome, IsSome}
 use Rattle.std.specs.Option.{option_map}
 use Rattle.std.proofs.lemmas.Option.{slice_get_cases, slice_get-map}
@@ -16,9 +16,9 @@ use Rattle.spi_play.specs.declared.plays.Ended.{Ended}
 use Rattle.spi_play.specs.declared.plays.PlayFault.{PlayFault}
 use Rattle.spi_play.specs.declared.plays.PlayFault.TheVariants.{BadPick, RunMessageTooLarge, TooManyPlaces, NoMemory as OutOfMemory}
 use Rattle.spi_play.specs.Way.{Seen}
-use Rattle.spi_play.specs.Play.{Seat, PlayState, Course, TurnOf, IsKth, CountsReady, Picks, DoesReady, DoesTurn, TakesTurn, Plays, PlayGoesOn, EndsBy, most_reached, no_players, none_ready, seats_from, start}
+use Rattle.spi_play.specs.Play.{Seat, PlayState, Course, TurnOf, IsKth, CountsReady, Picks, DoesReady, DoesTurn, TakesTurn, Plays, PlayGoesOn, seats_from, start}
 use Rattle.spi_play.specs.Outcome.{IsPickRefused, AskedTell}
-use Rattle.spi_play.proofs.Same.{HasEnded, all_at, follows_tells, picks_same, turns_same}
+use Rattle.spi_play.proofs.Same.{got_put, ended_once, HasEnded, all_at, follows_tells, picks_same, turns_same}
 use Rattle.spi_play.proofs.Steps.{counts_once, kth_once}
 use Rattle.spi_replay.proofs.Taken.{taken_never}
 use Rattle.spi_commands.specs.Playing.{AskedTold}
@@ -81,12 +81,6 @@ same_end before only most s (t ∷ ts) (u ∷ us) m n all told first second halt
     let same : first.0 ≡ second.0 = turns_same only most s t u first.0 second.0 first.1 (turn_tells before only most s t first.0 all first.1 (told t in_first)) second.1 in
     same_end before only most first.0 ts us m n (turn_keeps before only most s t first.0 all first.1) (λ turn i. told turn (in_later i)) first.2
     (subst (λ (x : PlayState). Plays only most x us n) (sym same) second.2) halts stops
-
--- a play that has ended doesn't go on
-ended_once : {c : Configuration} {next : Option ℕ} {taken most place ready : ℕ} {e : Ended} → EndsBy c next taken most e → PlayGoesOn c next taken most place ready → ⊥
-ended_once (most_reached h) goes = goes.more h
-ended_once (no_players m h) goes = let e : None ≡ Some _ = sym h ∙ goes.at in absurd (cc)
-ended_once (none_ready m h counts) goes = let e = counts_once counts goes.counts in let some = goes.some in omega (arith, e, some)
 
 -- a pick that is refused isn't done
 kth_inside : {c : Configuration} {ready k : ℕ} {s : Step} → CountsReady c ready → IsKth c k s → k < ready
@@ -233,11 +227,6 @@ seats_who : (i k : ℕ) (players : List Seen) (seat : Seat) → slice_get (seats
 seats_who i k [] seat is = absurd (cc)
 seats_who i zero (x ∷ players) seat is = let e : seat ≡ record { who = i; seen = x } = cc in ap (λ (s : Seat). s.who) e ∙ (let z : i ≡ i + 0 = omega arith in z)
 seats_who i (suc k) (x ∷ players) seat is = seats_who (i + 1) k players seat is ∙ (let z : i + 1 + k ≡ i + suc k = omega arith in z)
-
-got_put : (xs : List Seat) (i : ℕ) (x y : Seat) → slice_get xs i ≡ Some x → slice_get (slice_set xs i y) i ≡ Some y
-got_put [] i x y e = absurd (cc)
-got_put (z ∷ xs) zero x y e = refl
-got_put (z ∷ xs) (suc i) x y e = got_put xs i x y e
 
 only_after : (only place : ℕ) (p : Pick) (old new : Course) (seats after : List Seat) (next : Option ℕ) (seat : Seat) → slice_get seats place ≡ Some seat → seat.who ≡ only → DoesTurn (Some only) place p old new seats after next → (i : ℕ) (other : Seat) → next ≡ Some i → slice_get after i ≡ Some other → other.who ≡ only
 only_after only place (Take k) old new seats after next seat was who does i other asks there =

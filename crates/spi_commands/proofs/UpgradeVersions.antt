@@ -19,6 +19,7 @@ use Rattle.spi_rules.specs.declared.rule.Rule.{Rule}
 use Rattle.spi_rules.specs.Rule.{rule_spelled, named}
 use Rattle.spi_term.specs.Term.{Message, bound, name, unit, pair, in_left, in_right, enc, hash, Atom, ends, checks, many, Effect, Ty, un, unit_ty, pair_ty, sum_ty, key, nonce, Leaf, Sends, Stops, Prefix, Recvs, Serves, Splits, Selects, Decrypts, Checks, Begins, Ends, EndManys, Casts, Freshes, Fork, Branches, Pars, Process, leaf, prefix, fork}
 use Rattle.spi_spell.proofs.Printable.{HasVersion, MessageFits, AtomFits, EffectFits, PartsFit, TyFits, LeafFits, PrefixFits, ForkFits, ProcessFits}
+use Rattle.spi_spell.proofs.Together.{found_on}
 use Rattle.spi_commands.specs.Upgrading.{IsNewWord}
 
 -- ---- processes
@@ -165,14 +166,6 @@ none_on (x ∷ l) more w e f = by (bytes_eq (word_bytes x) w) e (λ k. none_on l
     by true h g = absurd cc
     by false h g = g h
 
-some_on : (l more : List Reserved) (w : List ℕ) (r : Reserved) → word_of l w ≡ Some r → word_of (l ++ more) w ≡ Some r
-some_on [] more w r e = absurd cc
-some_on (x ∷ l) more w r e = by (bytes_eq (word_bytes x) w) e (some_on l more w r)
-  where
-    by : (b : Bool) → cond b (Some x) (word_of l w) ≡ Some r → (word_of l w ≡ Some r → word_of (l ++ more) w ≡ Some r) → cond b (Some x) (word_of (l ++ more) w) ≡ Some r
-    by true h g = h
-    by false h g = g h
-
 no_new : (w : List ℕ) → ¬ IsNewWord w → word_of (Hash ∷ EndMany ∷ Many ∷ []) w ≡ None
 no_new w n =
     cond-false _ (Some Hash) (word_of (EndMany ∷ Many ∷ []) w) (differs (codes "hash") w (λ e. n (inl e)))
@@ -181,7 +174,7 @@ no_new w n =
 
 pub kind_later : (k : Kind) → IsOld k → IsKind version_1 k → IsKind version_2 k
 kind_later (kinds.Word w) n h = (h.0, h.1, none_on version_1 (Hash ∷ EndMany ∷ Many ∷ []) w h.2 (no_new w n))
-kind_later (kinds.Reserved word) n h = some_on version_1 (Hash ∷ EndMany ∷ Many ∷ []) (word_bytes word) word h
+kind_later (kinds.Reserved word) n h = found_on version_1 (Hash ∷ EndMany ∷ Many ∷ []) (word_bytes word) word h
 kind_later (kinds.Number value) n h = h
 kind_later (kinds.Mark m) n h = tt
 

@@ -9,6 +9,7 @@ use Rattle.spi_tree.specs.Formed.{is_later}
 use Rattle.spi_tree.specs.Pieces.{Piece, opens, kinds_in, ends, deriv_pieces, derivs_pieces, derivation_pieces, file_pieces}
 use Rattle.spi_parse.specs.Formed.{IsFile, IsFormedDerived, HasRules, HaveRules, count_derivs, is_written, whole_file}
 use Rattle.spi_parse.specs.Rules.{rules_of, arity_by, arity_of, writes_effect}
+use Rattle.spi_parse.proofs.Wholes.{kinds_count}
 use Rattle.spi_rules.specs.declared.rule.Rule.{Rule}
 use Rattle.spi_rules.specs.declared.rule.Rule.TheVariants.{ProcSub}
 use Rattle.spi_rules.specs.Rule.{arity, rule_spelled, named}
@@ -24,7 +25,7 @@ use Rattle.spi_commands.specs.Spelled.{limit, IsTreeOf}
 use Rattle.spi_commands.specs.Verifying.{rule_at}
 use Rattle.spi_commands.proofs.FilePieces as Past
 use Rattle.spi_commands.proofs.FilePlaces.{at_first, either, opened_within}
-use Rattle.spi_commands.proofs.FileRefusals.{HaveOwnTokens, longer_on, kinds_long, tokens_within, spells_kinds}
+use Rattle.spi_commands.proofs.FileRefusals.{HaveOwnTokens, longer_on, tokens_within, spells_kinds}
 
 -- a use stands among the pieces of its derivation
 abbrev IsAmongPieces : Piece → List Piece → Type 0
@@ -79,7 +80,7 @@ pub few_uses : (bytes : List ℕ) (tree : t.File) (us : List RuleUse) → IsTree
 few_uses bytes tree us is e =
     let long = Past.past_parts {P = HaveOwnTokens (length (uses_of_tree (derivation_in tree.derivation)))} (longer_on (length (uses_of_tree (derivation_in tree.derivation)))) tree (derivation_long tree.derivation _) in
     let same : kinds_in (whole_file tree) ≡ kinds_of is.tokens = spells_kinds 0 (whole_file tree) is.tokens is.spelled in
-    let each : length (kinds_of is.tokens) ≡ length is.tokens = kinds_long is.tokens in
+    let each : length (kinds_of is.tokens) ≡ length is.tokens = kinds_count is.tokens in
     let most = tokens_within 0 (length bytes) is.tokens (lexed bytes is.tokens is.lexed).1 in
     let own : uses_of_tree (derivation_in tree.derivation) ≡ us = ap uses_of_tree e in
     let some : length us ≤ length (kinds_of is.tokens) = subst (λ (v : List RuleUse). length v ≤ length (kinds_of is.tokens)) own (subst (λ ks. length (uses_of_tree (derivation_in tree.derivation)) ≤ length ks) same long) in

@@ -4,6 +4,7 @@ use Rattle.std.specs.Prelude.{codes}
 use Rattle.std.specs.Str.{bytes_eq}
 use Rattle.std.proofs.lemmas.Slice.Eq.{bytes_eq-Decides}
 use Rattle.clap.specs.Walk.{Text}
+use Rattle.spi_term.proofs.Choices.{or_right}
 use Rattle.spi_commands.specs.declared.asked.Command.{Command}
 use Rattle.spi_commands.specs.Number.{number_below}
 use Rattle.spi_commands.specs.Asked.{NumberedCommands, apart, asked, number_table, pieces, play_one, row_of, with_numbers, with_options}
@@ -17,17 +18,13 @@ first_or_rest G word more h first rest = by (bytes_eq word (codes "--")) refl h
     by true e h = subst G (sym ((bytes_eq-Decides word (codes "--")).0 e)) first
     by false e h = rest h
 
-or_last : (b c : Bool) → c ≡ true → (b || c) ≡ true
-or_last true c e = refl
-or_last false c e = e
-
 piece_behind : (word : Text) (ps : List Text) → has_dashes ps ≡ true → has_dashes (apart word ++ ps) ≡ true
 piece_behind word ps h = by (bytes_eq (take 8 word) (codes "--steps=")) (bytes_eq (take 9 word) (codes "--player="))
   where
     by : (b c : Bool) → has_dashes (cond b (codes "--steps" ∷ drop 8 word ∷ []) (cond c (codes "--player" ∷ drop 9 word ∷ []) (word ∷ [])) ++ ps) ≡ true
-    by true c = or_last (bytes_eq (drop 8 word) (codes "--")) _ h
-    by false true = or_last (bytes_eq (drop 9 word) (codes "--")) _ h
-    by false false = or_last (bytes_eq word (codes "--")) _ h
+    by true c = or_right (bytes_eq (drop 8 word) (codes "--")) _ h
+    by false true = or_right (bytes_eq (drop 9 word) (codes "--")) _ h
+    by false false = or_right (bytes_eq word (codes "--")) _ h
 
 piece_too : (words : List Text) → has_dashes words ≡ true → has_dashes (pieces words) ≡ true
 piece_too [] h = h

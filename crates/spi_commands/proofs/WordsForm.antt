@@ -1,10 +1,11 @@
 -- What clap makes of all the words.
-use Rattle.std.proofs.Common.{◌≡◌, ◌∙◌, ℕ, Bool, true, false, true≢false, not, ◌&&◌, ◌||◌, refl, sym, ap, ap₂, cond, ◌+◌, subst, List, [], ◌∷◌, ◌++◌, map, option_map, Option, Some, None, is_some, inl, inr, ◌⊎◌}
+use Rattle.std.proofs.Common.{◌≡◌, ◌∙◌, ℕ, Bool, true, false, true≢false, not, ◌&&◌, refl, sym, ap, ap₂, cond, ◌+◌, subst, List, [], ◌∷◌, ◌++◌, map, option_map, Option, Some, None, is_some, inl, inr, ◌⊎◌}
 use Rattle.std.specs.Prelude.{codes, find}
 use Rattle.std.specs.List.{fold, list_all}
 use Rattle.std.specs.Option.{option_map_or}
 use Rattle.std.specs.Str.{bytes_eq}
 use Rattle.std.proofs.lemmas.Slice.Eq.{bytes_eq-Decides}
+use Rattle.std.proofs.lemmas.Bool.{not-true}
 use Rattle.clap.specs.Kinds.{Kinds, or_else}
 use Rattle.clap.specs.Faults.{check_fault, defaults_fault, entered_fault, fault_of, is_simple_and_free, level_fault, settle_fault, turn_fault, walk_fault}
 use Rattle.clap.specs.Walk.{Names, Row, Rule, Text, Walk, answers_to, finished, first_of, idle, nothing_held, rows_after, settled, subcommand_met, walk_from, walked}
@@ -15,18 +16,16 @@ use Rattle.clap.specs.declared.error.kind.ErrorKind.{ErrorKind}
 use Rattle.clap.specs.declared.error.kind.ErrorKind.TheVariants.{DisplayHelp, UnknownArgument, InvalidSubcommand}
 use Rattle.clap.proofs.WalkLemmas.{walk_stopped}
 use Rattle.clap.proofs.OnLiterals.{clap_on_literals}
+use Rattle.spi_term.proofs.Counting.{and_true}
+use Rattle.spi_term.proofs.Freeness.{or_false}
 use Rattle.spi_commands.specs.declared.asked.Command.{Command}
 use Rattle.spi_commands.specs.Number.{number_below}
 use Rattle.spi_commands.specs.Asked.{NumberedCommands, asked, at_least, number_table, row_of, with_numbers, word_table}
 use Rattle.spi_commands.specs.Options.{found_command, has_dashes, read, whole_app, with_count, words_of}
 use Rattle.spi_commands.proofs.WordsKinds.{IsDashed, IsPlainValue, dashed_or_plain}
 use Rattle.spi_commands.proofs.WordsLevels.{after, level_answer, dashed_turn, goes, plain_turn, plain_walked, waiting_walk, stops}
-use Rattle.spi_commands.proofs.WordsTables.{at_word, both, found_row, no_row}
+use Rattle.spi_commands.proofs.WordsTables.{at_word, found_row, no_row}
 use Rattle.spi_commands.proofs.WordsPlay.{built_shape, play_read, play_rules, shape as play_shape}
-
-or_parts : (b c : Bool) → (b || c) ≡ false → (b ≡ false) × (c ≡ false)
-or_parts true c e = absurd (true≢false e)
-or_parts false c e = (refl, e)
 
 -- ---- no word may stand behind the command
 
@@ -35,7 +34,7 @@ module _ (name : Text) (r : List Row → Option Command) where
   leaf_read word rest h = by (dashed_or_plain [] word (λ x. refl) (λ p e. refl))
     where
       d : bytes_eq word (codes "--") ≡ false
-      d = (or_parts (bytes_eq word (codes "--")) (has_dashes rest) h).0
+      d = (or_false (bytes_eq word (codes "--")) (has_dashes rest) h).0
 
       by : IsDashed [] word ⊎ IsPlainValue [] word → None ≡ after (built_shape name []) r (waiting_walk idle 1 [] None) (word ∷ rest)
       by (inl k) = stops (built_shape name []) r (waiting_walk idle 1 [] None) word rest UnknownArgument [] (dashed_turn (built_shape name []) [] idle 1 [] None word refl d k)
@@ -97,7 +96,7 @@ module _ (name : Text) (form_app : NumberedCommands) where
   count_read (word ∷ []) h = by (count_kind word)
     where
       d : bytes_eq word (codes "--") ≡ false
-      d = (or_parts (bytes_eq word (codes "--")) false h).0
+      d = (or_false (bytes_eq word (codes "--")) false h).0
 
       by : IsDashed (count_rule ∷ []) word ⊎ IsPlainValue (count_rule ∷ []) word → after count_shape count_in (waiting_walk idle 1 [] None) (word ∷ []) ≡ at_least form_app (number_below (form_app.most + 1) word)
       by (inl k) = sym (dashed_count word [] d k) ∙ sym (no_number word (k.number (form_app.most + 1)))
@@ -105,11 +104,11 @@ module _ (name : Text) (form_app : NumberedCommands) where
   count_read (word ∷ next ∷ rest) h = by (count_kind word)
     where
       d : (bytes_eq word (codes "--") ≡ false) × (has_dashes (next ∷ rest) ≡ false)
-      d = or_parts (bytes_eq word (codes "--")) (has_dashes (next ∷ rest)) h
+      d = or_false (bytes_eq word (codes "--")) (has_dashes (next ∷ rest)) h
 
       by : IsDashed (count_rule ∷ []) word ⊎ IsPlainValue (count_rule ∷ []) word → after count_shape count_in (waiting_walk idle 1 [] None) (word ∷ next ∷ rest) ≡ None
       by (inl k) = sym (dashed_count word (next ∷ rest) d.0 k)
-      by (inr k) = plain_count word (next ∷ rest) d.0 k ∙ sym (two_counts word next rest (or_parts (bytes_eq next (codes "--")) (has_dashes rest) d.1).0)
+      by (inr k) = plain_count word (next ∷ rest) d.0 k ∙ sym (two_counts word next rest (or_false (bytes_eq next (codes "--")) (has_dashes rest) d.1).0)
 
 -- ---- the first word
 
@@ -219,10 +218,6 @@ none_of : {X : Type 0} (o : Option X) → not (is_some o) ≡ true → o ≡ Non
 none_of None e = refl
 none_of (Some x) e = absurd (true≢false (sym e))
 
-off : (b : Bool) → not b ≡ true → b ≡ false
-off true e = absurd (true≢false (sym e))
-off false e = refl
-
 -- a word of the first table is none of the others
 abbrev is_alone : Text → Bool
 is_alone word = not (bytes_eq word (codes "play")) && not (is_some (row_of word number_table))
@@ -233,8 +228,8 @@ words_alone = refl
 module _ (word : Text) (players : ℕ) (command : Command) (is : row_of word word_table ≡ Some command) where
   alone : (bytes_eq word (codes "play") ≡ false) × (row_of word number_table ≡ None)
   alone =
-      let e = both (not (bytes_eq word (codes "play"))) (not (is_some (row_of word number_table))) (at_word is_alone word word_table command is words_alone) in
-      (off (bytes_eq word (codes "play")) e.0, none_of (row_of word number_table) e.1)
+      let e = and_true (not (bytes_eq word (codes "play"))) (not (is_some (row_of word number_table))) (at_word is_alone word word_table command is words_alone) in
+      (not-true (bytes_eq word (codes "play")) e.0, none_of (row_of word number_table) e.1)
 
   word_told : (rest : List Text) → has_dashes rest ≡ false → told_of (word ∷ rest) players ≡ asked (word ∷ rest) players
   unfolding clap_on_literals
@@ -282,7 +277,7 @@ module _ (word : Text) (players : ℕ) (none : row_of word word_table ≡ None) 
     unknown_told h = by (dashed_or_plain [] word (λ x. refl) (λ p e. refl))
       where
         two : bytes_eq word (codes "--") ≡ false
-        two = (or_parts (bytes_eq word (codes "--")) (has_dashes rest) h).0
+        two = (or_false (bytes_eq word (codes "--")) (has_dashes rest) h).0
 
         by : IsDashed [] word ⊎ IsPlainValue [] word → told_of (word ∷ rest) players ≡ None
         by (inl k) = told_fails (turn_fault form_top form_names (walk_from nothing_held) word) UnknownArgument [] (walk_fault form_top form_names (walked [] form_names (walk_from nothing_held) word) rest) (fold (walked [] form_names) (walked [] form_names (walk_from nothing_held) word) rest) (dashed_turn form_top form_names idle 1 [] None word no_name two k)
@@ -303,7 +298,7 @@ module _ (players : ℕ) (word : Text) (rest : List Text) (h : has_dashes (word 
   IsFormTold = told_of (word ∷ rest) players ≡ asked (word ∷ rest) players
 
   behind_none : has_dashes rest ≡ false
-  behind_none = (or_parts (bytes_eq word (codes "--")) (has_dashes rest) h).1
+  behind_none = (or_false (bytes_eq word (codes "--")) (has_dashes rest) h).1
 
   by_number : row_of word word_table ≡ None → bytes_eq word (codes "play") ≡ false → (o : Option NumberedCommands) → row_of word number_table ≡ o → IsFormTold
   by_number none differs None is = unknown_told word players none differs is rest h ∙ sym (unknown_asked word players none differs is rest rest)

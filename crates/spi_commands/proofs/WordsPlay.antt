@@ -14,6 +14,7 @@ use Rattle.clap.specs.declared.builder.value_parser.ValueParser.TheVariants as v
 use Rattle.clap.specs.declared.error.kind.ErrorKind.TheVariants.{ArgumentConflict, InvalidValue, UnknownArgument}
 use Rattle.clap.specs.declared.parser.matches.ValueSource.TheVariants.{CommandLine}
 use Rattle.clap.proofs.OnLiterals.{clap_on_literals}
+use Rattle.spi_term.proofs.Freeness.{or_false}
 use Rattle.spi_commands.specs.declared.asked.Command.{Command}
 use Rattle.spi_commands.specs.Asked.{apart, pieces, with_options}
 use Rattle.spi_commands.specs.Options.{has_dashes, with_values}
@@ -266,15 +267,11 @@ module _ (players : ℕ) where
   strange_for None word ps i j = refl
   strange_for (Some t) word ps i j = no_option t word ps players i j
 
-  or_parts : (b c : Bool) → (b || c) ≡ false → (b ≡ false) × (c ≡ false)
-  or_parts true c e = absurd (true≢false e)
-  or_parts false c e = (refl, e)
-
   between_step : (word : Text) (rest : List Text) → BetweenOptions rest → Amid rest → BetweenOptions (word ∷ rest)
   between_step word rest next waits h s p = by (kind_of word)
     where
       d : (bytes_eq word (codes "--") ≡ false) × (has_dashes rest ≡ false)
-      d = or_parts (bytes_eq word (codes "--")) (has_dashes rest) h
+      d = or_false (bytes_eq word (codes "--")) (has_dashes rest) h
 
       by : WordKind word → after shape read (between_options s p) (word ∷ rest) ≡ wants (then s p) (pieces (word ∷ rest)) players
       by (bare steps is) = subst (λ w. after shape read (between_options s p) (w ∷ rest) ≡ wants (then s p) (pieces (w ∷ rest)) players) (sym is) (bare_word_step rest waits d.1 s p steps)
@@ -304,7 +301,7 @@ module _ (players : ℕ) where
   amid_step word rest next h s x = by (kind_of word)
     where
       d : (bytes_eq word (codes "--") ≡ false) × (has_dashes rest ≡ false)
-      d = or_parts (bytes_eq word (codes "--")) (has_dashes rest) h
+      d = or_false (bytes_eq word (codes "--")) (has_dashes rest) h
 
       by : WordKind word → after shape read (amid (rows s) x) (word ∷ rest) ≡ with_options (pieces_of s ++ bare_option x ∷ pieces (word ∷ rest)) players
       by (bare steps is) = subst (λ w. after shape read (amid (rows s) x) (w ∷ rest) ≡ with_options (pieces_of s ++ bare_option x ∷ pieces (w ∷ rest)) players) (sym is)

@@ -7,26 +7,23 @@ use Rattle.std.proofs.lemmas.Bool.Decides.{nat_tests}
 use Rattle.std.proofs.lemmas.Slice.Eq.{bytes_eq-Decides}
 use Rattle.clap.specs.Walk.{Rule, Text, answers_to}
 use Rattle.clap.specs.Simple.{Shape, label_of}
+use Rattle.spi_term.proofs.Counting.{and_true}
 use Rattle.spi_commands.specs.declared.asked.Command.{Command}
 use Rattle.spi_commands.specs.Number.{below_limit, number, number_below}
 use Rattle.spi_commands.specs.Asked.{AreNumbersKnown, NumberedCommands, asked, at_least, number_table, pieces, play_all, play_one, row_of, with_numbers, with_options, word_table}
 use Rattle.spi_commands.specs.Options.{words_of}
 use Rattle.spi_commands.proofs.WordsPlay.{built_shape}
 
-pub both : (b c : Bool) → (b && c) ≡ true → (b ≡ true) × (c ≡ true)
-both true c e = (refl, e)
-both false c e = absurd (true≢false (sym e))
-
 module _ {X : Type 0} where
   -- what holds of all words of a table holds of one that has a row
   pub at_word : (P : Text → Bool) (word : Text) (rows : List (Text × X)) (x : X) → row_of word rows ≡ Some x → list_all P (words_of rows) ≡ true → P word ≡ true
   at_word P word [] x e all = absurd (true≢false (sym (ap is_some e)))
   at_word P word (row ∷ rows) x e all =
-      let parts = both (P row.0) (list_all P (words_of rows)) all in
+      let parts = and_true (P row.0) (list_all P (words_of rows)) all in
       by (bytes_eq row.0 word) refl e (λ f. at_word P word rows x f parts.1)
     where
       by : (b : Bool) → bytes_eq row.0 word ≡ b → cond b (Some row.1) (row_of word rows) ≡ Some x → (row_of word rows ≡ Some x → P word ≡ true) → P word ≡ true
-      by true is f later = ap P (sym ((bytes_eq-Decides row.0 word).0 is)) ∙ (both (P row.0) (list_all P (words_of rows)) all).0
+      by true is f later = ap P (sym ((bytes_eq-Decides row.0 word).0 is)) ∙ (and_true (P row.0) (list_all P (words_of rows)) all).0
       by false is f later = later f
 
   -- what holds of each row holds of that of a word

@@ -1,13 +1,13 @@
 -- What has a key keeps it as the store and the keys grow.
-use Rattle.std.proofs.Common.{◌≡◌, ℕ, ◌<◌, ◌⊎◌, inl, inr, ⊎_elim, Bool, true, false, eqb, [], ◌∷◌, ◌++◌, Some, refl, sym, ap, subst, ◌∙◌, eq-eqb, Result, Ok, Err}
-use Rattle.std.specs.Prelude.{slice_get, nat_eq, if◌then◌else◌, OnOk}
+use Rattle.std.proofs.Common.{◌≡◌, ℕ, ◌<◌, ◌⊎◌, inl, inr, ⊎_elim, Bool, true, false, eqb, [], ◌∷◌, ◌++◌, Some, refl, sym, ap, subst, ◌∙◌, eq-eqb}
+use Rattle.std.specs.Prelude.{slice_get, nat_eq, if◌then◌else◌}
 use Rattle.std.proofs.lemmas.Bool.{eqb-true}
 use Rattle.indexmap.specs.IndexMap.{get}
 use Rattle.spi_term.specs.Term.{Message, Atom, Effect}
 use Rattle.spi_term.specs.Lists.{in_first, in_later}
+use Rattle.spi_term.proofs.Lists.{some_is}
 use Rattle.spi_intern.specs.Meaning.{Keeps}
 use Rattle.spi_intern.specs.declared.store.Store.{Store}
-use Rattle.spi_intern.proofs.Lists.{some_one}
 use Rattle.spi_intern.proofs.Meanings.{terms_same, terms_more}
 use Rattle.spi_count.specs.Sums.{name_bound, key_of}
 use Rattle.spi_count.specs.declared.keys.Keys.{Keys}
@@ -57,7 +57,7 @@ module _ (s : Store) (ks ls : Keys) (id : ℕ) (m : Message) (at : slice_get s.m
   kept_old i k h e true q =
       let w = h.keyed i k e in
       let p = eqb-true id i q in
-      let n : m ≡ w.0 = some_one (sym at ∙ ap (λ i. slice_get s.messages i) p ∙ w.1.at) in
+      let n : m ≡ w.0 = some_is (sym at ∙ ap (λ i. slice_get s.messages i) p ∙ w.1.at) in
       let k' : key_of (name_bound m) id ≡ key_of (name_bound w.0) i = ap (λ m. key_of (name_bound m) id) n ∙ ap (λ i. key_of (name_bound w.0) i) p in
       ap (λ i. get nat_eq ls.keys i) (sym p) ∙ there ∙ ap Some k' ∙ sym w.1.key ∙ e
 
@@ -74,10 +74,6 @@ key_keeps {i = i} {m = m} g h = record { at = g.store.messages.at i m h.at; key 
 
 pub have_keys_keep : {s r : Store} {ks ls : Keys} (es : Effect) → GrowsTo s ks r ls → HaveKeys s ks es → HaveKeys r ls es
 have_keys_keep {s} {r} {ks} {ls} es g h a w = let z = h a w in (z.0, key_keeps {s = s} {r = r} {ks = ks} {ls = ls} g z.1)
-
-pub on_ok : {A E : Type 0} {P Q : Type 0} (r : Result A E) → (P → Q) → OnOk r P → OnOk r Q
-on_ok (Ok a) f h = f h
-on_ok (Err e) f h = tt
 
 -- no atom, and one more
 pub have_none : (s : Store) (ks : Keys) → HaveKeys s ks []

@@ -5,7 +5,8 @@ use Rattle.spi_term.specs.Term.{Message, Atom, ends, checks, many, same_atom, Ef
 use Rattle.spi_term.specs.View.{message}
 use Rattle.spi_term.specs.declared.term.Msg.{Msg}
 use Rattle.spi_term.specs.Counts.{tally, cut, count, SameEffect}
-use Rattle.spi_term.proofs.Counting.{tally_append, same_atom_true, in_tally, tally_in, count_tally}
+use Rattle.spi_term.proofs.Counting.{tally_append, same_atom_true, in_tally, tally_in, count_tally, count_none}
+use Rattle.spi_term.proofs.Lists.{some_is}
 use Rattle.spi_intern.specs.declared.store.Store.{Store}
 use Rattle.spi_intern.specs.declared.messages.MsgId.{MsgId}
 use Rattle.spi_intern.specs.Messages.{message_at}
@@ -20,7 +21,6 @@ use Rattle.spi_count.specs.Keeping.{with_keys, IsKeyed, HasKey, HaveKeys}
 use Rattle.spi_count.specs.Adding.{SumOf, IsKey, atom_of_kind}
 use Rattle.indexmap.specs.IndexMap.{get}
 use Rattle.spi_count.proofs.Summed.{numbers, place_is}
-use Rattle.spi_intern.proofs.Lists.{some_one}
 use Rattle.spi_intern.proofs.Sized.{message_there}
 use Rattle.spi_intern.specs.Parts.{message_of}
 
@@ -33,14 +33,9 @@ pub record IsSumRead (s : Store) (keys : Keys) (sum rest : Sum) (es : Effect) : 
   pub known : HaveKeys s keys es
   pub inside : (kind : AtomKind) (q : ℕ) → 0 < count_of (part kind rest) q → 0 < count_of (part kind sum) q
 
-zero_count : (a : Atom) → count a [] ≡ 0
-zero_count (ends m) = refl
-zero_count (checks m) = refl
-zero_count (many m) = omega arith
-
 pub read_none : (s : Store) (keys : Keys) (sum : Sum) (es : Effect) → es ≡ [] → IsSumRead s keys sum sum es
 read_none s keys sum es e = subst (IsSumRead s keys sum sum) (sym e) (record {
-  counts = λ a i g. let z = zero_count a in omega (arith, z);
+  counts = λ a i g. let z = count_none a in omega (arith, z);
   known = λ a n. elim n [ ];
   inside = λ kind q p. p;
 })
@@ -151,7 +146,7 @@ key_place s keys i q m w e = let l = w.small in omega (arith, e, l)
 pub id_place : (s : Store) (keys : Keys) (q : ℕ) (r : IsKey s keys q) (id : MsgId) → ((k : ℕ) → get nat_eq keys.keys (q % 4294967296) ≡ Some k → Some id.place ≡ Some (q % 4294967296)) → id.place ≡ r.0
 id_place s keys q r id h =
     let e = key_place s keys r.0 q r.1 r.2 r.3 in
-    some_one (h (key_of (name_bound r.1) r.0) (ap (get nat_eq keys.keys) e ∙ r.2.key)) ∙ e
+    some_is (h (key_of (name_bound r.1) r.0) (ap (get nat_eq keys.keys) e ∙ r.2.key)) ∙ e
 
 pub id_none : (s : Store) (keys : Keys) (q : ℕ) (r : IsKey s keys q) → ((k : ℕ) → get nat_eq keys.keys (q % 4294967296) ≡ Some k → None ≡ Some (q % 4294967296)) → ⊥
 id_none s keys q r h =

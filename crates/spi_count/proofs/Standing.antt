@@ -5,7 +5,7 @@ use Rattle.std.proofs.lemmas.Bool.{ne_eqb, cases_eq, or_left, or_right}
 use Rattle.spi_term.specs.Term.{Message, bound, name, unit, pair, in_left, in_right, enc, hash, Atom, ends, checks, many, same_atom, Effect}
 use Rattle.spi_term.specs.Lists.{In, in_first, in_later}
 use Rattle.spi_term.specs.Counts.{tally, cut, count}
-use Rattle.spi_term.proofs.Counting.{cut_cases, tally_append, same_atom_refl, same_atom_true, in_tally, tally_in, count_tally}
+use Rattle.spi_term.proofs.Counting.{cut_cases, tally_append, same_atom_refl, same_atom_true, in_tally, count_tally, count_in, in_count}
 use Rattle.spi_effect.specs.Effect.{IsMany}
 use Rattle.spi_effect.specs.Made.{are_many, minus, greater, is_free, is_free_at, mentions}
 use Rattle.spi_effect.proofs.Laws.{AllMany_in, AllMany_of}
@@ -45,6 +45,11 @@ same_kind Many Many = inl refl
 -- keys of messages with their numbers
 pub same_place : (above over i j : ℕ) → i < 4294967296 → j < 4294967296 → key_of above i ≡ key_of over j → i ≡ j
 same_place above over i j h k e = omega (arith, h, k, e)
+
+-- a number is 0 or more
+pub zero_or : (n : ℕ) → (n ≡ 0) ⊎ (0 < n)
+zero_or zero = inl refl
+zero_or (suc n) = inr (omega arith)
 
 module _ (At : ℕ → Message → Type 0) (numbers : AreNumbers At) where
   -- the count of an atom
@@ -97,12 +102,6 @@ module _ (At : ℕ → Message → Type 0) (numbers : AreNumbers At) where
       none a = ⊎_elim (λ c. omega (arith, c 0)) (λ c. omega (arith, c 0)) (cut_cases a)
 
   -- the effect counts alone
-  in_count : (a : Atom) (es : Effect) → In a es → 0 < count a es
-  in_count a es n = (count_tally a (tally a es)).1 (in_tally n)
-
-  count_in : (a : Atom) (es : Effect) → 0 < count a es → In a es
-  count_in a es h = tally_in a es ((count_tally a (tally a es)).0 h)
-
   pub stands_same : {s : Sum} {es fs : Effect} → StandsForEffect At s es → ((a : Atom) → count a es ≡ count a fs) → StandsForEffect At s fs
   stands_same {s} {es} {fs} h e = record {
     counted = λ a i g. h.counted a i g ∙ e a;
@@ -187,10 +186,6 @@ module _ (At : ℕ → Message → Type 0) (numbers : AreNumbers At) where
 
   zero_less : (n : ℕ) → 0 - n ≡ 0
   zero_less n = omega arith
-
-  zero_or : (n : ℕ) → (n ≡ 0) ⊎ (0 < n)
-  zero_or zero = inl refl
-  zero_or (suc n) = inr (omega arith)
 
   zero_of : (n : ℕ) → (0 < n → ⊥) → n ≡ 0
   zero_of n h = ⊎_elim (λ e. e) (λ p. absurd (h p)) (zero_or n)

@@ -1,12 +1,12 @@
 -- What the changes of counts by the keys of messages do to effects.
-use Rattle.std.proofs.Common.{◌≡◌, refl, sym, ap, ◌∙◌, subst, ℕ, zero, suc, ◌+◌, ◌-◌, ◌<◌, ◌≤◌, List, [], ◌∷◌, ◌++◌, length, take, get_or, Option, Some, None, arith, append-nil, append_assoc}
+use Rattle.std.proofs.Common.{◌≡◌, refl, sym, ap, ◌∙◌, subst, ℕ, zero, suc, ◌+◌, ◌-◌, ◌<◌, List, [], ◌∷◌, ◌++◌, length, take, get_or, Option, Some, None, arith, append-nil, append_assoc}
 use Rattle.std.specs.Prelude.{slice_get, nat_eq, ⊤}
-use Rattle.spi_intern.proofs.Lists.{some_one}
 use denote.Ref.{Bor}
 use Rattle.indexmap.specs.IndexMap.{get}
 use Rattle.spi_term.specs.Term.{Message, Atom, ends, checks, many, Effect, Ty}
 use Rattle.spi_term.specs.Counts.{count, cut}
-use Rattle.spi_term.specs.Lists.{In, in_first, in_later}
+use Rattle.spi_term.specs.Lists.{In}
+use Rattle.spi_term.proofs.Lists.{some_is, in_end, in_left}
 use Rattle.spi_effect.specs.Made.{less_one, minus}
 use Rattle.spi_effect.proofs.Made.{minus_difference}
 use Rattle.spi_effect.proofs.Laws.{sum_append, same_within, within_in}
@@ -43,7 +43,7 @@ module _ {s : Store} {keys : Keys} (k : IsKeyed s keys) where
   differ_at g h = place_is g.at h.at
 
   one_at : {i : ℕ} {m n : Message} → with_keys s keys i m → with_keys s keys i n → m ≡ n
-  one_at g h = some_one (sym g.at ∙ h.at)
+  one_at g h = some_is (sym g.at ∙ h.at)
 
   pub numbers : AreNumbers (with_keys s keys)
   numbers = record { small = small_at; differ = differ_at; one = one_at }
@@ -52,9 +52,9 @@ module _ {s : Store} {keys : Keys} (k : IsKeyed s keys) where
   found : (i key : ℕ) (m : Message) → get nat_eq keys.keys i ≡ Some key → slice_get s.messages i ≡ Some m → with_keys s keys i m × (key ≡ key_of (name_bound m) i)
   found i key m g at =
       let (n, h) = k.keyed.keyed i key g in
-      let e : n ≡ m = some_one (sym h.at ∙ at) in
+      let e : n ≡ m = some_is (sym h.at ∙ at) in
       let w = subst (λ n. with_keys s keys i n) e h in
-      (w, some_one (sym g ∙ w.key))
+      (w, some_is (sym g ∙ w.key))
 
   -- the key of a message that has one
   kept_at : (i : ℕ) (m : Message) → slice_get s.messages i ≡ Some m → HasKey s keys m → with_keys s keys i m
@@ -121,21 +121,6 @@ take_step (y ∷ xs) (suc i) d h =
     let z : suc i + 1 ≡ suc (i + 1) = omega arith in
     ap (λ n. take n (y ∷ xs)) z ∙ ap (λ l. y ∷ l) (take_step xs i d (omega arith))
 
-pub take_whole : {A : Type 0} (xs : List A) (n : ℕ) → length xs ≤ n → take n xs ≡ xs
-take_whole [] zero h = refl
-take_whole [] (suc n) h = refl
-take_whole (x ∷ xs) zero h = absurd (omega arith)
-take_whole (x ∷ xs) (suc n) h = ap (λ l. x ∷ l) (take_whole xs n (omega arith))
-
-pub in_front : {A : Type 0} {a : A} (xs ys : List A) → In a xs → In a (xs ++ ys)
-in_front [] ys n = elim n [ ]
-in_front (x ∷ xs) ys in_first = in_first
-in_front (x ∷ xs) ys (in_later n) = in_later (in_front xs ys n)
-
-pub in_end : {A : Type 0} (xs : List A) (a : A) → In a (xs ++ a ∷ [])
-in_end [] a = in_first
-in_end (x ∷ xs) a = in_later (in_end xs a)
-
 pub record EndedSum {P M : Type 0} (S : P → M → Type 0) (ps : List P) (p : P) (ms : List M) : Type 0 where
   pub front : List M
   pub last : M
@@ -159,7 +144,7 @@ adds_more keys ids js a old mid new e p q = subst (λ js. AddsAll keys js old ne
     go : AddsAll keys (ids ++ a ∷ []) old new
     go s fs es k t h st =
         let x = tells_end ids a fs t in
-        let y = p s x.front es k x.tells (λ c n. h c (subst (In c) (sym x.is) (in_front x.front (x.last ∷ []) n))) st in
+        let y = p s x.front es k x.tells (λ c n. h c (subst (In c) (sym x.is) (in_left (x.last ∷ []) n))) st in
         let z = q s x.last (es ++ x.front) k x.says (h x.last (subst (In x.last) (sym x.is) (in_end x.front x.last))) y in
         subst (λ fs. SumOf s keys new (es ++ fs)) (sym x.is) (subst (SumOf s keys new) (append_assoc es x.front (x.last ∷ [])) z)
 

@@ -10,7 +10,7 @@ use Rattle.spi_rules.specs.Derivations.{RuleUse, Derivable}
 use Rattle.spi_rules.specs.Processes.{HasEffect}
 use Rattle.spi_rules.specs.Least.{Least}
 use Rattle.spi_rules.proofs.Paying.{has_pays}
-use Rattle.spi_infer.proofs.Descending.{length_untrusted}
+use Rattle.spi_rules.proofs.Typing.{length_untrusted}
 use Rattle.spi_deriv.specs.Canonical.{Canonical, IsCanonical}
 use Rattle.spi_deriv.specs.Uses.{process_uses}
 use Rattle.spi_deriv.proofs.Existing.{chosen}

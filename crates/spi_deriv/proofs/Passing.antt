@@ -6,12 +6,13 @@ use Rattle.std.proofs.lemmas.List.{take-take, take-append-le, length-take-le, dr
 use Rattle.spi_term.specs.Term.{Ty, un, Leaf, Prefix, Fork, Process, leaf, prefix, fork, binds, fork_binds, process_size, Recvs}
 use Rattle.spi_term.specs.Spelling.{Shape, leaf_at, prefix_at, fork_at, flat, numbered, spelled}
 use Rattle.spi_term.specs.Arena.{scope_of}
+use Rattle.spi_term.proofs.Lists.{drop_get}
 use Rattle.spi_rules.specs.Environment.{untrusted}
 use Rattle.spi_rules.specs.Derivations.{RuleUse}
+use Rattle.spi_rules.proofs.Typing.{length_untrusted}
 use Rattle.spi_message.specs.Forms.{on_first, on_rest}
-use Rattle.spi_infer.proofs.Descending.{length_untrusted}
 use Rattle.spi_message.proofs.Opened.{length_first, length_rest}
-use Rattle.spi_infer.proofs.Scanning.{drop_at_get}
+use Rattle.spi_show.proofs.Passing.{flat_at}
 use Rattle.spi_deriv.specs.Agenda.{next_types, node_uses, IsPassed}
 use Rattle.spi_deriv.specs.Uses.{leaf_uses, prefix_uses, fork_uses, binding, process_uses}
 
@@ -69,10 +70,7 @@ length_binding : (s : Prefix) → length (binding s) ≡ binds s
 length_binding (Recvs m t) = refl
 length_binding _ = refl
 
--- a process at another place, and after other names
-flat_at : (p : Process) {i j k n : ℕ} → i ≡ j → k ≡ n → flat i k p ≡ flat j n p
-flat_at p {i} {j} {k} {n} h g = ap (λ i. flat i k p) h ∙ ap (λ k. flat j k p) g
-
+-- processes at another place
 nodes_at : (ts : List Task) {i j : ℕ} → i ≡ j → nodes_of i ts ≡ nodes_of j ts
 nodes_at ts h = ap (λ i. nodes_of i ts) h
 
@@ -172,7 +170,7 @@ pub passes_next : {ss : List Shape} {all : List RuleUse} {i : ℕ} {now later : 
 passes_next {ss} {all} {i} {now} {later} {bs} {cs} {us} {vs} x n w at h p =
     let q : (b : List Ty) (rest : List (List Ty)) → bs ≡ b ∷ rest → IsPassed (scope_of x) x b rest now later cs us vs
     = λ b rest e. subst (λ n. IsPassed n x b rest now later cs us vs) h (p b rest e) in
-    next_from ss all i x w.tasks w.are (sym (drop_at_get ss i x at) ∙ w.nodes) w.uses q
+    next_from ss all i x w.tasks w.are (ap (λ n. x ∷ drop n ss) (let z : i + 1 ≡ suc i = omega arith in z) ∙ sym (drop_get ss i x at) ∙ w.nodes) w.uses q
 
 -- behind the last node nothing is left
 none_left : (i : ℕ) (ts : List Task) → [] ≡ nodes_of i ts → task_uses ts ≡ []

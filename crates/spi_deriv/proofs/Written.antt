@@ -11,6 +11,7 @@ use Rattle.spi_rules.specs.Messages.{HasType, msg_name, msg_unit, msg_unit_un, m
 use Rattle.spi_rules.specs.Processes.{IsNonce, nonce_name, nonce_cast}
 use Rattle.spi_rules.specs.Derivations.{uses, type_uses}
 use Rattle.spi_rules.specs.declared.rule.Rule.TheVariants.{MsgName, MsgPair, MsgPairUn, MsgInl, MsgInlUn, MsgInr, MsgInrUn, MsgEnc, MsgEncUn}
+use Rattle.spi_rules.proofs.Least.{nonce_no_un}
 use Rattle.spi_message.specs.Tests.{key_in, type_of_key, nonce_in, nonce_of}
 use Rattle.spi_deriv.specs.Canonical.{IsTypedMessage, IsCanonicalMessage}
 use Rattle.spi_deriv.specs.Uses.{enc_uses, message_uses, is_pair_ty, is_pair, is_sum_ty, is_sum}
@@ -21,16 +22,12 @@ no_un_key : {e : Env} {x : ℕ} {t : Ty} → At e x (key t) → HasType [] e (na
 no_un_key a (msg_name b same_un) = let h = at_unique a b in cc
 no_un_key a (msg_cast i s) = elim i [ ]
 
-no_un_nonce : {e : Env} {x : ℕ} {es : Effect} → At e x (nonce es) → HasType [] e (name x) un → ⊥
-no_un_nonce a (msg_name b same_un) = let h = at_unique a b in cc
-no_un_nonce a (msg_cast i s) = elim i [ ]
-
 pub key_or_un : {e : Env} {n : Message} {t : Ty} → HasType [] e n (key t) → HasType [] e n un → ⊥
 key_or_un (msg_name a (same_key s)) h = no_un_key a h
 key_or_un (msg_cast i s) h = elim i [ ]
 
 pub nonce_or_un : {e : Env} {n : Message} {es : Effect} → IsNonce [] e n es → HasType [] e n un → ⊥
-nonce_or_un (nonce_name a) h = no_un_nonce a h
+nonce_or_un (nonce_name a) h = nonce_no_un a h
 nonce_or_un (nonce_cast i) h = elim i [ ]
 
 -- each typing without casts is canonical: a key is a name of a Key type, or it has type Un, and never both

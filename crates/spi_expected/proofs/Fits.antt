@@ -1,19 +1,19 @@
 -- The candidates fit behind each front of a file's tokens.
-use Rattle.std.proofs.Common.{◌≡◌, ℕ, zero, suc, ◌<◌, ◌≤◌, Bool, true, false, List, [], ◌∷◌, ◌++◌, length, map, get_or, Option, Some, None, refl, sym, subst, true≢false, lit≤, arith}
-use Rattle.std.specs.Prelude.{codes, if◌then◌else◌, ◌&&◌}
+use Rattle.std.proofs.Common.{◌≡◌, ℕ, zero, suc, ◌<◌, ◌≤◌, Bool, true, false, List, [], ◌∷◌, ◌++◌, length, map, get_or, None, refl, sym, subst, true≢false, lit≤, arith}
+use Rattle.std.specs.Prelude.{codes, ◌&&◌}
 use Rattle.std.specs.List.{AllByRecursion}
-use Rattle.std.specs.Str.{bytes_eq}
 use Rattle.std.proofs.lemmas.Slice.Eq.{bytes_eq-Decides}
 use Rattle.spi_lex.specs.declared.token.Kind.{Kind}
 use Rattle.spi_lex.specs.declared.token.Kind.TheVariants as K
 use Rattle.spi_lex.specs.declared.token.Mark.{Mark}
 use Rattle.spi_lex.specs.declared.token.Reserved.{Reserved}
 use Rattle.spi_lex.specs.declared.token.Reserved.TheVariants.{Hash, EndMany, Many}
-use Rattle.spi_lex.specs.Words.{word_bytes, word_of, version_1, version_2}
+use Rattle.spi_lex.specs.Words.{word_of, version_1, version_2}
 use Rattle.spi_lex.specs.Lexing.{is_version, is_two, is_semicolon, is_version_2}
 use Rattle.spi_lex.proofs.Writing.{all_letters, letters_identifier}
 use Rattle.spi_tree.specs.Formed.{IsWordFit, AreWordsFit}
 use Rattle.spi_parse.proofs.LiveLaws.{version_fit}
+use Rattle.spi_parse.proofs.Words.{fewer_words, fit_any}
 use Rattle.spi_expected.specs.Expected.{marks, words, candidates}
 
 -- ---- lists
@@ -34,24 +34,12 @@ module _ {A : Type 0} (P : A → Type 0) where
 
 -- ---- a word that isn't reserved in version 2 isn't in version 1
 
-none_more : (b : Bool) (w : Reserved) (o p : Option Reserved) → (if b then Some w else o) ≡ None → (o ≡ None → p ≡ None) → (if b then Some w else p) ≡ None
-none_more true w o p h g = absurd (let z = h in cc)
-none_more false w o p h g = g h
-
-none_left : (ws more : List Reserved) (bytes : List ℕ) → word_of (ws ++ more) bytes ≡ None → word_of ws bytes ≡ None
-none_left [] more bytes h = refl
-none_left (w ∷ ws) more bytes h = none_more (bytes_eq (word_bytes w) bytes) w (word_of (ws ++ more) bytes) (word_of ws bytes) h (none_left ws more bytes)
-
 pub fits_first : (v : Bool) (k : Kind) → IsWordFit v k → IsWordFit false k
-fits_first true (K.Word name) h = (h.0, h.1, none_left version_1 (Hash ∷ EndMany ∷ Many ∷ []) name h.2)
+fits_first true (K.Word name) h = (h.0, h.1, fewer_words version_1 (Hash ∷ EndMany ∷ Many ∷ []) name h.2)
 fits_first false (K.Word name) h = h
 fits_first v (K.Reserved word) h = tt
 fits_first v (K.Number value) h = tt
 fits_first v (K.Mark m) h = tt
-
-pub fits_each : (v : Bool) (k : Kind) → IsWordFit true k → IsWordFit v k
-fits_each true k h = h
-fits_each false k h = fits_first true k h
 
 version_word : (k : Kind) → is_version k ≡ true → IsWordFit true k
 version_word (K.Word name) h = subst (λ (n : List ℕ). IsWordFit true (K.Word n)) (sym ((bytes_eq-Decides name (codes "version")).0 h)) version_fit
@@ -87,7 +75,7 @@ fits_behind (a ∷ []) rest k h f = (fits_first _ a h.0, (fits_first true k f, t
 fits_behind (a ∷ b ∷ []) rest k h f = three (is_version_2 (a ∷ b ∷ k ∷ [])) a b k refl (fits_first _ a h.0) (fits_first _ b h.1.0) f
 fits_behind (a ∷ b ∷ c ∷ ds) rest k h f =
     let v = is_version_2 (a ∷ b ∷ c ∷ ds) in
-    all_both (IsWordFit v) (a ∷ b ∷ c ∷ ds) (k ∷ []) (all_left (IsWordFit v) (a ∷ b ∷ c ∷ ds) rest h) (fits_each v k f, tt)
+    all_both (IsWordFit v) (a ∷ b ∷ c ∷ ds) (k ∷ []) (all_left (IsWordFit v) (a ∷ b ∷ c ∷ ds) rest h) (fit_any v k f, tt)
 
 pub fits_front : (all front rest : List Kind) (k : Kind) → all ≡ front ++ rest → AreWordsFit (is_version_2 all) all → IsWordFit true k → AreWordsFit (is_version_2 (front ++ k ∷ [])) (front ++ k ∷ [])
 fits_front all front rest k e h f = fits_behind front rest k (subst (λ (l : List Kind). AreWordsFit (is_version_2 l) l) e h) f

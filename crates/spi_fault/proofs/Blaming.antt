@@ -1,8 +1,10 @@
 -- The first check that fails is found by trying them one after another.
 use Rattle.std.proofs.Common.{◌≡◌, ◌↔◌, ⊎_elim, refl, sym, ap, ◌∙◌, subst, subst₂, ℕ, zero, suc, ◌+◌, ◌<◌, ◌≤◌, List, [], ◌∷◌, ◌++◌, length, take, drop, map, get_or, Option, Some, None, Result, Ok, Err, IfOk, IsNone, arith}
 use Rattle.std.specs.Prelude.{slice_get}
-use Rattle.spi_term.specs.Lists.{In, in_first, in_later}
-use Rattle.spi_term.proofs.Lists.{in_append}
+use Rattle.std.proofs.lemmas.List.{take_all, length-map}
+use Rattle.std.proofs.lemmas.Option.{slice_get-get_or}
+use Rattle.spi_term.specs.Lists.{In, in_first}
+use Rattle.spi_term.proofs.Lists.{in_append, in_none, in_one, get_in, get_map, take_get}
 use Rattle.spi_term.specs.Names.{ProcessOver}
 use Rattle.spi_term.specs.Term as Term
 use Rattle.spi_term.specs.Term.{Effect, Process, process_size}
@@ -27,7 +29,6 @@ use Rattle.spi_fault.specs.Faults.{thing, FirstBlocks, FailsFirst, IsLeastText, 
 use Rattle.spi_fault.specs.Trying.{check, IsOf, IsAskedOf, TellsFailure, TellsAtom, IsBlamed}
 use Rattle.spi_fault.proofs.Passed.{all_pass}
 use Rattle.spi_fault.proofs.Heads.{asked, checks_at}
-use Rattle.spi_fault.proofs.Texts.{get_within}
 use Rattle.spi_fault.proofs.Telling.{node_within, over_node}
 
 pub blocks_within : (k : ℕ) {n : ℕ} {p : Process} → FirstBlocks (untrusted k) p n → n < process_size p
@@ -39,44 +40,10 @@ blocks_here k {q = q} {e = e} f n =
     subst (λ q. BlocksAt e q) same.1 (subst (λ e. BlocksAt e f.blocks.1.0) same.0 f.blocks.1.1.1)
 
 -- lists
-length_map : {A B : Type 0} (f : A → B) (xs : List A) → length (map f xs) ≡ length xs
-length_map f [] = refl
-length_map f (x ∷ xs) = ap suc (length_map f xs)
-
-in_none : {A : Type 0} {x : A} → In x [] → ⊥
-in_none i = elim i [ ]
-
-in_one : {A : Type 0} {x y : A} → In x (y ∷ []) → x ≡ y
-in_one in_first = refl
-in_one (in_later i) = absurd (in_none i)
-
-pub get_in : {A : Type 0} (xs : List A) (i : ℕ) (x : A) → slice_get xs i ≡ Some x → In x xs
-get_in [] i x h = absurd (cc)
-get_in (y ∷ xs) zero x h = let e : y ≡ x = cc in subst (λ z. In z (y ∷ xs)) e in_first
-get_in (y ∷ xs) (suc i) x h = in_later (get_in xs i x h)
-
-pub get_map : {A B : Type 0} (f : A → B) (xs : List A) (i : ℕ) (x : A) → slice_get xs i ≡ Some x → slice_get (map f xs) i ≡ Some (f x)
-get_map f [] i x h = absurd (cc)
-get_map f (y ∷ xs) zero x h = let e : y ≡ x = cc in ap (λ z. Some (f z)) e
-get_map f (y ∷ xs) (suc i) x h = get_map f xs i x h
-
 split_at : {A : Type 0} (xs : List A) (i : ℕ) (x : A) → slice_get xs i ≡ Some x → xs ≡ take i xs ++ x ∷ drop (suc i) xs
 split_at [] i x h = absurd (cc)
 split_at (y ∷ xs) zero x h = let e : y ≡ x = cc in ap (λ z. z ∷ xs) e
 split_at (y ∷ xs) (suc i) x h = ap (λ l. y ∷ l) (split_at xs i x h)
-
-take_one : {A : Type 0} (xs : List A) (i : ℕ) (x : A) → slice_get xs i ≡ Some x → take (i + 1) xs ≡ take i xs ++ x ∷ []
-take_one [] i x h = absurd (cc)
-take_one (y ∷ xs) zero x h = let e : y ≡ x = cc in ap (λ y. y ∷ []) e
-take_one (y ∷ xs) (suc i) x h =
-    let z : suc i + 1 ≡ suc (i + 1) = omega arith in
-    ap (λ n. take n (y ∷ xs)) z ∙ ap (λ l. y ∷ l) (take_one xs i x h)
-
-take_all : {A : Type 0} (xs : List A) (i : ℕ) → length xs ≤ i → take i xs ≡ xs
-take_all [] zero l = refl
-take_all [] (suc i) l = refl
-take_all (x ∷ xs) zero l = absurd (omega (arith, l))
-take_all (x ∷ xs) (suc i) l = ap (λ l. x ∷ l) (take_all xs i (omega (arith, l)))
 
 -- the checks so far pass
 abbrev pub PassTo : Env → Process → List Check → ℕ → Type 0
@@ -87,7 +54,7 @@ pass_none env q cs = λ d i. absurd (in_none i)
 
 pub pass_more : (env : Env) (q : Process) (cs : List Check) (i : ℕ) (c : Check) → slice_get cs i ≡ Some c → PassTo env q cs i → Passes env q c → PassTo env q cs (i + 1)
 pass_more env q cs i c at before now d z =
-    ⊎_elim (λ (w : In d (take i cs)). before d w) (λ (w : In d (c ∷ [])). subst (λ d. Passes env q d) (sym (in_one w)) now) (in_append (take i cs) (subst (λ l. In d l) (take_one cs i c at) z))
+    ⊎_elim (λ (w : In d (take i cs)). before d w) (λ (w : In d (c ∷ [])). subst (λ d. Passes env q d) (sym (in_one w)) now) (in_append (take i cs) (subst (λ l. In d l) (ap (λ n. take n cs) (let e : i + 1 ≡ suc i = omega arith in e) ∙ take_get cs i c at) z))
 
 -- this one is the first that fails
 pub fails_here : (env : Env) (q : Process) (cs : List Check) (i : ℕ) (c : Check) → cs ≡ checks q → slice_get cs i ≡ Some c → PassTo env q cs i → (Passes env q c → ⊥) → FailsFirst env q c
@@ -133,7 +100,9 @@ module _ (k : ℕ) (p : Process) (id : ℕ) (env : Env) (checks' : List Declared
   passed_none = λ q n d i. absurd (in_none i)
 
   at_check : (i : ℕ) (c : Declared.Check) → i < length checks' → c ≡ get_or checks' i c → slice_get (map check checks') i ≡ Some (check c)
-  at_check i c l at = get_map check checks' i c (get_within checks' i c l ∙ ap Some (sym at))
+  at_check i c l at =
+      let g : slice_get checks' i ≡ Some c = slice_get-get_or checks' i c l ∙ ap Some (sym at) in
+      get_map check checks' i g
 
   pub passed_more : (i : ℕ) (c : Declared.Check) → i < length checks' → c ≡ get_or checks' i c → PassedTo i → ((q : Process) → Node q → Passes env q (check c)) → PassedTo (i + 1)
   passed_more i c l at before now = λ q n. pass_more env q (map check checks') i (check c) (at_check i c l at) (before q n) (now q n)
@@ -164,7 +133,7 @@ module _ (k : ℕ) (p : Process) (id : ℕ) (env : Env) (checks' : List Declared
 
   pub all_passed : (i : ℕ) → length checks' ≤ i → Given → PassedTo i → (q : Process) → Node q → (d : Check) → In d (checks q) → Passes env q d
   all_passed i l given before q n d z =
-      before q n d (subst (λ cs. In d cs) (sym (take_all (map check checks') i (omega (arith, l, length_map check checks')))) (subst (λ cs. In d cs) (sym (given_at given q n)) z))
+      before q n d (subst (λ cs. In d cs) (sym (take_all i (map check checks') (omega (arith, l, length-map checks' check)))) (subst (λ cs. In d cs) (sym (given_at given q n)) z))
 
 -- the node that blocks first
 pub never_none : (k : ℕ) {n : ℕ} {p q : Process} {e : Env} → ProcessOver k p → FirstBlocks (untrusted k) p n → NodeOf (untrusted k) p n e q → ((d : Check) → In d (checks q) → Passes e q d) → ⊥

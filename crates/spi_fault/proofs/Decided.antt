@@ -18,7 +18,7 @@ use Rattle.spi_rules.specs.Blocking.{HasSome, Child}
 use Rattle.spi_message.specs.Tests.{is_un, nonce_in, typed, labelled, good, nonce_of}
 use Rattle.spi_message.specs.Forms.{is_nonce}
 use Rattle.spi_message.proofs.Tested.{nonce_there as nonce_type_of}
-use Rattle.spi_message.proofs.Deciding.{is_un_true, is_un_from, typed_true, typed_from, labelled_true, labelled_from, good_true, good_from}
+use Rattle.spi_message.proofs.Deciding.{is_un_true, is_un_from, typed_true, typed_from, labelled_true, labelled_from, good_true, good_from, nonce_sound, nonce_complete}
 use Rattle.spi_fault.specs.Checks as C
 use Rattle.spi_fault.specs.Passing.{IsCastable, HasLeastBehind, HasBoundName, Passes, Spoils, not_many, escapes, unchecked}
 use Rattle.spi_fault.specs.Trying.{IsAskedOf}
@@ -71,21 +71,9 @@ castable_or (nonce es) = inl tt
 castable_or _ = inr (λ z. z)
 
 -- names of a Nonce type
-nonce_type : (o : Option Ty) (es : Effect) → nonce_in o ≡ Some es → o ≡ Some (nonce es)
-nonce_type (Some (nonce fs)) es h = let f : fs ≡ es = cc in ap (λ fs. Some (nonce fs)) f
-nonce_type _ es h = absurd (cc)
-
-nonce_is : (e : Env) (m : Message) (fs : Effect) → nonce_of e m ≡ Some fs → IsNonce [] e m fs
-nonce_is e (name x) fs h = nonce_name (get_at e x (nonce_type (slice_get e x) fs h))
-nonce_is e _ fs h = absurd (cc)
-
-nonce_told : {e : Env} {m : Message} {fs : Effect} → IsNonce [] e m fs → nonce_of e m ≡ Some fs
-nonce_told (nonce_name a) = ap nonce_in (at_get a)
-nonce_told (nonce_cast i) = elim i [ ]
-
 nonce_when : (e : Env) (m : Message) (o : Option Effect) → nonce_of e m ≡ o → Decided ((fs : Effect) × IsNonce [] e m fs)
-nonce_when e m None h = inr (λ z. absurd (let f : None ≡ Some z.0 = sym h ∙ nonce_told z.1 in cc f))
-nonce_when e m (Some fs) h = inl (fs, nonce_is e m fs h)
+nonce_when e m None h = inr (λ z. absurd (let f : None ≡ Some z.0 = sym h ∙ nonce_complete z.1 in cc f))
+nonce_when e m (Some fs) h = inl (fs, nonce_sound e m fs h)
 
 pub nonce_or : (e : Env) (m : Message) → Decided ((fs : Effect) × IsNonce [] e m fs)
 nonce_or e m = nonce_when e m (nonce_of e m) refl

@@ -1,6 +1,7 @@
 -- The first check of a list that fails, and the law that a node which blocks has one.
 use Rattle.std.proofs.Common.{◌≡◌, ◌⊎◌, inl, inr, ⊎_elim, refl, ap, List, [], ◌∷◌, ◌++◌, length}
 use Rattle.spi_term.specs.Lists.{In, in_first, in_later}
+use Rattle.spi_term.proofs.Lists.{in_none}
 use Rattle.spi_term.specs.Names.{ProcessOver}
 use Rattle.spi_term.specs.Term.{Process}
 use Rattle.spi_rules.specs.Environment.{Env}
@@ -16,9 +17,6 @@ use Rattle.spi_fault.proofs.Heads.{asked}
 abbrev FailsAll : (Check → Type 0) → List Check → Type 0
 FailsAll P cs =
     (before : List Check) × (c : Check) × (after : List Check) × (cs ≡ before ++ c ∷ after) × ((d : Check) → In d before → P d) × (P c → ⊥)
-
-in_none : {A : Type 0} {x : A} → In x [] → ⊥
-in_none i = elim i [ ]
 
 in_more : (P : Check → Type 0) {d c : Check} {cs : List Check} → P c → ((d : Check) → In d cs → P d) → In d (c ∷ cs) → P d
 in_more P p h in_first = p

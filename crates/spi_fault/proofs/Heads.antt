@@ -2,18 +2,18 @@
 use Rattle.std.proofs.Common.{◌≡◌, sym, ap, ◌∙◌, ℕ, suc, ◌+◌, ◌-◌, ◌<◌, ◌≤◌, ◌^◌, List, [], ◌∷◌, ◌++◌, drop, length, Some, arith}
 use Rattle.std.specs.Prelude.{slice_get, ⊤}
 use Rattle.spi_term.specs.Lists.{In, in_first, in_later}
+use Rattle.spi_term.proofs.Lists.{head_is, drop_get}
 use Rattle.spi_term.specs.Term.{Ty, pair_ty, Sends, Stops, Prefix, Recvs, Serves, Splits, Selects, Decrypts, Checks, Begins, Ends, EndManys, Casts, Freshes, Branches, Pars, Process, leaf, prefix, fork, fork_binds, process_size}
 use Rattle.spi_term.specs.Spelling.{Shape, leaf_at, prefix_at, fork_at, flat, numbered, spelled, IsSmall, HasSmallParts, ty_nodes}
 use Rattle.spi_term.specs.Arena.{scope_of}
 use Rattle.spi_term.proofs.Numbers.{size_numbered, small_node}
 use Rattle.spi_rules.specs.Environment.{Env, untrusted}
 use Rattle.spi_rules.specs.Blocking.{child_recv, child_serve, child_split, child_select, child_left, child_right, child_decrypt, child_cast, child_fresh, NodeOf}
+use Rattle.spi_rules.proofs.Typing.{length_untrusted}
 use Rattle.spi_message.specs.Forms.{enter, on_first}
 use Rattle.spi_message.proofs.Opened.{numbered_leaf, numbered_prefix, numbered_fork, size_enter}
 use Rattle.spi_infer.proofs.Nodes.{reached_of}
-use Rattle.spi_infer.proofs.Scanning.{drop_at_get}
 use Rattle.spi_infer.proofs.Located.{located}
-use Rattle.spi_infer.proofs.Descending.{length_untrusted}
 use Rattle.spi_fault.specs.Checks.{Check, prefix_checks, fork_checks, checks, shape_checks}
 use Rattle.spi_fault.specs.Trying.{IsAskedOf, CanBeCounted}
 
@@ -22,9 +22,6 @@ abbrev Shapes : ℕ → ℕ → Process → Shape → Type 0
 Shapes id n (leaf l) x = x ≡ leaf_at n l
 Shapes id n (prefix s p) x = x ≡ prefix_at n s (suc id)
 Shapes id n (fork f p q) x = x ≡ fork_at n f (suc id) (suc id + process_size p)
-
-head_is : {A : Type 0} {x y : A} {xs ys : List A} → x ∷ xs ≡ y ∷ ys → x ≡ y
-head_is e = cc
 
 shape_is : (id : ℕ) (e : Env) (q : Process) (x : Shape) (xs rest : List Shape) → x ∷ xs ≡ flat id (length e) (numbered [] (length e) q) ++ rest → Shapes id (length e) q x
 shape_is id e (leaf l) x xs rest h = head_is (h ∙ ap (λ t. flat id (length e) t ++ rest) (numbered_leaf (length e) l))
@@ -39,7 +36,7 @@ module _ (k : ℕ) (p : Process) (id : ℕ) (e : Env) (q : Process) (x : Shape) 
   has_shape =
       let w = located 0 (reached_of node) in
       let z : 0 + id ≡ id = omega arith in
-      shape_is id e q x (drop (id + 1) (spelled k p)) w.rest (sym (drop_at_get (spelled k p) id x at) ∙ ap (λ k. drop id (spelled k p)) (sym (length_untrusted k)) ∙ w.shapes ∙ ap (λ j. flat j (length e) (numbered [] (length e) q) ++ w.rest) z)
+      shape_is id e q x (drop (suc id) (spelled k p)) w.rest (sym (drop_get (spelled k p) id x at) ∙ ap (λ k. drop id (spelled k p)) (sym (length_untrusted k)) ∙ w.shapes ∙ ap (λ j. flat j (length e) (numbered [] (length e) q) ++ w.rest) z)
 
 checks_of : (id n : ℕ) (q : Process) (x : Shape) → Shapes id n q x → shape_checks id x ≡ checks q
 checks_of id n (leaf l) x h = ap (shape_checks id) h

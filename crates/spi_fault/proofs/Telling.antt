@@ -10,11 +10,12 @@ use Rattle.spi_effect.specs.Effect.{IsDifference}
 use Rattle.spi_rules.specs.Environment.{Env, untrusted}
 use Rattle.spi_rules.specs.Least.{Least}
 use Rattle.spi_rules.specs.Blocking.{Child, NodeOf, node_root, node_below, HasSome, BlocksAt}
+use Rattle.spi_rules.proofs.Typing.{length_untrusted}
 use Rattle.spi_infer.specs.Inferring.{IsLeast, IsLeastAt}
 use Rattle.spi_infer.proofs.Nodes.{reached_of}
 use Rattle.spi_infer.proofs.Blocked.{reach_within}
 use Rattle.spi_infer.proofs.Located.{over_reached}
-use Rattle.spi_infer.proofs.Descending.{one_node, length_untrusted}
+use Rattle.spi_infer.proofs.Descending.{one_node}
 use Rattle.spi_fault.specs.declared.deciding.Found.{Found}
 use Rattle.spi_fault.specs.declared.least.Kind.TheVariants as K
 use Rattle.spi_fault.specs.Checks as C

@@ -1,5 +1,5 @@
 -- The atom whose report form is least, as the atoms are gone through.
-use Rattle.std.proofs.Common.{◌≡◌, ◌≢◌, ◌⊎◌, inl, inr, ⊎_elim, refl, sym, ap, ap₂, ◌∙◌, subst, ℕ, zero, suc, ◌+◌, ◌<◌, ◌≤◌, List, [], ◌∷◌, ◌++◌, length, take, map, get_or, Option, Some, None, arith}
+use Rattle.std.proofs.Common.{◌≡◌, ◌≢◌, ◌⊎◌, inl, inr, ⊎_elim, refl, sym, ap, ap₂, ◌∙◌, subst, ℕ, zero, suc, ◌+◌, ◌≤◌, List, [], ◌∷◌, ◌++◌, length, take, map, Option, Some, None, arith}
 use Rattle.std.specs.Prelude.{slice_get}
 use Rattle.std.specs.Global.{Vec}
 use Rattle.std.specs.Cmp.Lexicographic.{slice_cmp}
@@ -7,39 +7,13 @@ use Rattle.std.specs.Ordering.{nat_cmp, ordering_reverse}
 use Rattle.std.specs.declared.cmp.Ordering.{Ordering}
 use Rattle.std.specs.declared.cmp.Ordering.TheVariants.{Less, Equal, Greater}
 use Rattle.std.proofs.lemmas.Cmp.{nat_list_cmp_total}
-use Rattle.spi_term.specs.Lists.{In, in_first, in_later}
-use Rattle.spi_term.proofs.Lists.{in_append}
+use Rattle.spi_term.specs.Lists.{In}
+use Rattle.spi_term.proofs.Lists.{in_append, in_none, in_one, get_append, get_last, get_in}
 use Rattle.spi_term.specs.declared.term.Atom as Declared
 use Rattle.spi_term.specs.Term.{Atom, Effect}
 use Rattle.spi_term.specs.View.{atom}
 use Rattle.spi_show.specs.Report.{reported_atom}
 use Rattle.spi_fault.specs.Trying.{IsBest, IsBetter, IsPlaceOfLeast, tried_place}
-
-in_none : {A : Type 0} {x : A} → In x [] → ⊥
-in_none i = elim i [ ]
-
-in_one : {A : Type 0} {x y : A} → In x (y ∷ []) → x ≡ y
-in_one in_first = refl
-in_one (in_later i) = absurd (in_none i)
-
-get_more : {A : Type 0} (xs ys : List A) (i : ℕ) (x : A) → slice_get xs i ≡ Some x → slice_get (xs ++ ys) i ≡ Some x
-get_more [] ys i x h = absurd (cc)
-get_more (y ∷ xs) ys zero x h = h
-get_more (y ∷ xs) ys (suc i) x h = get_more xs ys i x h
-
-get_last : {A : Type 0} (xs : List A) (x : A) → slice_get (xs ++ x ∷ []) (length xs) ≡ Some x
-get_last [] x = refl
-get_last (y ∷ xs) x = get_last xs x
-
-get_in : {A : Type 0} (xs : List A) (i : ℕ) (x : A) → slice_get xs i ≡ Some x → In x xs
-get_in [] i x h = absurd (cc)
-get_in (y ∷ xs) zero x h = let e : y ≡ x = cc in subst (λ z. In z (y ∷ xs)) e in_first
-get_in (y ∷ xs) (suc i) x h = in_later (get_in xs i x h)
-
-pub get_within : {A : Type 0} (xs : List A) (i : ℕ) (d : A) → i < length xs → slice_get xs i ≡ Some (get_or xs i d)
-get_within [] i d l = absurd (omega (arith, l))
-get_within (x ∷ xs) zero d l = refl
-get_within (x ∷ xs) (suc i) d l = get_within xs i d (omega (arith, l))
 
 -- the order of texts
 abbrev text_cmp : List ℕ → List ℕ → Ordering
@@ -78,7 +52,7 @@ module _ (names : List (List ℕ)) (P : Atom → Type 0) (es : List Atom) (a : A
   pub best_skip : (o : Option (ℕ × Vec ℕ)) → (P a → ⊥) → IsBest names P es o → IsBest names P (es ++ a ∷ []) o
   best_skip None n h = λ b i p. ⊎_elim (λ (i : In b es). h b i p) (λ (e : b ≡ a). n (subst P e p)) (more i)
   best_skip (Some (j, text)) n (x, at, is, t, least) =
-      (x, get_more es (a ∷ []) j x at, is, t, λ b i p. ⊎_elim (λ (i : In b es). least b i p) (λ (e : b ≡ a). absurd (n (subst P e p))) (more i))
+      (x, get_append es (a ∷ []) j x at, is, t, λ b i p. ⊎_elim (λ (i : In b es). least b i p) (λ (e : b ≡ a). absurd (n (subst P e p))) (more i))
 
   abbrev Above : Atom → Type 0
   Above x = (b : Atom) → In b (es ++ a ∷ []) → P b → slice_cmp nat_cmp (reported_atom names x) (reported_atom names b) ≢ Greater
@@ -94,7 +68,7 @@ module _ (names : List (List ℕ)) (P : Atom → Type 0) (es : List Atom) (a : A
   best_more i text (Some (j, old)) r is at t (inl (g, e)) (x, place, was, u, least) =
       subst (IsBest names P (es ++ a ∷ [])) (sym e) (a, ap (slice_get (es ++ a ∷ [])) at ∙ get_last es a, is, t, above_itself (λ b i p. below (reported_atom names a) (reported_atom names x) (reported_atom names b) (ap₂ text_cmp (sym u) (sym t) ∙ g) (least b i p)))
   best_more i text (Some (j, old)) r is at t (inr (g, e)) (x, place, was, u, least) =
-      subst (IsBest names P (es ++ a ∷ [])) (sym e) (x, get_more es (a ∷ []) j x place, was, u, λ b i p. ⊎_elim (λ (i : In b es). least b i p) (λ (e : b ≡ a). subst (λ b. text_cmp (reported_atom names x) (reported_atom names b) ≢ Greater) (sym e) (λ k. g (ap₂ text_cmp u t ∙ k))) (more i))
+      subst (IsBest names P (es ++ a ∷ [])) (sym e) (x, get_append es (a ∷ []) j x place, was, u, λ b i p. ⊎_elim (λ (i : In b es). least b i p) (λ (e : b ≡ a). subst (λ b. text_cmp (reported_atom names x) (reported_atom names b) ≢ Greater) (sym e) (λ k. g (ap₂ text_cmp u t ∙ k))) (more i))
 
 pub best_place : (names : List (List ℕ)) (P : Atom → Type 0) (es : List Atom) (o : Option (ℕ × Vec ℕ)) → IsBest names P es o → IsPlaceOfLeast names P es (tried_place o)
 best_place names P es None h = h

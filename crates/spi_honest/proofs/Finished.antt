@@ -1,7 +1,7 @@
 -- A narration that was told to its end has an honest schedule.
-use Rattle.std.proofs.Common.{◌≡◌, ℕ, zero, suc, ◌≤◌, List, [], ◌∷◌, length, take, drop, map, refl, sym, ap, ◌∙◌, subst, arith, ◌⊎◌, inl, inr, ⊎_elim}
+use Rattle.std.proofs.Common.{◌≡◌, ℕ, ◌≤◌, List, [], ◌∷◌, length, take, map, sym, ap, ◌∙◌, subst, ◌⊎◌, inl, inr, ⊎_elim}
 use Rattle.std.proofs.lemmas.Bool.{cases_eq}
-use Rattle.std.proofs.lemmas.List.{append-nil}
+use Rattle.std.proofs.lemmas.List.{append-nil, take_all, drop_all}
 use Rattle.spi_tree.specs.declared.tree.SWord.{SWord}
 use Rattle.spi_narrate.specs.Narrations as n
 use Rattle.spi_term.specs.Lists.{At, In, in_first, in_later}
@@ -34,18 +34,6 @@ pub all_stop : {roles : List SWord} {place : Word → ℕ} {has : Word → Map} 
 all_stop {roles} {place} {ps = ps} h i p a =
     ⊎_elim (λ f. let s = h.there f.0 f.1 in at_unique a (subst (λ k. At ps k s.process) f.2 s.there) ∙ s.holds) (λ d. h.others i p a d) (at_place place i roles)
 
-all_dropped : {A : Type 0} (xs : List A) (i : ℕ) → length xs ≤ i → drop i xs ≡ []
-all_dropped [] zero h = refl
-all_dropped [] (suc i) h = refl
-all_dropped (x ∷ xs) zero h = absurd (omega arith)
-all_dropped (x ∷ xs) (suc i) h = all_dropped xs i (omega arith)
-
-all_taken : {A : Type 0} (xs : List A) (i : ℕ) → length xs ≤ i → take i xs ≡ xs
-all_taken [] zero h = refl
-all_taken [] (suc i) h = refl
-all_taken (x ∷ xs) zero h = absurd (omega arith)
-all_taken (x ∷ xs) (suc i) h = ap (λ l. x ∷ l) (all_taken xs i (omega arith))
-
 finished_at : {x : n.Narration} {file : Meant} {pool : Pooled} {steps : List Step} {events : List Event} {is : List ℕ} (h : Honest) → map step h.steps.items ≡ steps → map event h.events.items ≡ events → Progress x file x.lines [] pool steps events is → IsHonest x file h
 finished_at {x} {file} {pool} {steps} {events} h a b p = record {
   told = p.told;
@@ -60,5 +48,5 @@ finished_at {x} {file} {pool} {steps} {events} h a b p = record {
 pub finished : (x : n.Narration) (file : Meant) (i : ℕ) (st : Stage) (h : Honest) → length x.lines ≤ i → h.steps.items ≡ st.steps.items → h.events.items ≡ st.events.items → ToldTo x file i st → IsHonest x file h
 finished x file i st h e a b t =
     finished_at h (ap (map step) a) (ap (map event) b)
-    (subst (λ ls. Progress x file ls [] st.pool (stage_steps st) (events_in st) st.places.items) (all_taken x.lines i e)
-    (subst (λ ls. Progress x file (take i x.lines) ls st.pool (stage_steps st) (events_in st) st.places.items) (all_dropped x.lines i e) t))
+    (subst (λ ls. Progress x file ls [] st.pool (stage_steps st) (events_in st) st.places.items) (take_all i x.lines e)
+    (subst (λ ls. Progress x file (take i x.lines) ls st.pool (stage_steps st) (events_in st) st.places.items) (drop_all i x.lines e) t))

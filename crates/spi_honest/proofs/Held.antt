@@ -6,6 +6,7 @@ use Rattle.std.proofs.lemmas.Bool.{ne_eqb}
 use Rattle.spi_tree.specs.Trees as t
 use Rattle.spi_term.specs.Term.{Message, bound, pair, in_left, in_right, enc, hash, Process, send, recv, serve, split, select, decrypt, check, begin, end, end_many, cast, branch, par}
 use Rattle.spi_term.specs.Substitution.{ty_map, process_map, process_put, process_put_two, put}
+use Rattle.spi_term.proofs.Terms.{put_here}
 use Rattle.spi_replay.specs.Holding.{IsClosed}
 use Rattle.spi_replay.proofs.Opening.{put_closed}
 use Rattle.spi_scope.specs.Scope.{Word, Names}
@@ -82,12 +83,9 @@ index_within (d ∷ ds) w = if_within (length ds) (bytes_eq d w) (index_of ds w)
 put_other : (a : Message) (k i : ℕ) → i < k → put a k (bound i) ≡ bound i
 put_other a k i h = let e : (i == k) ≡ false = ne_eqb i k (λ e. omega (arith, e)) in rw e
 
-put_same : (a : Message) (k : ℕ) → put a k (bound k) ≡ a
-put_same a k = let e : (k == k) ≡ true = Rattle.std.proofs.Common.eq-eqb k k refl in rw e
-
 put_last : (a : Message) (k : ℕ) (o : Option ℕ) (b : Bool) (m : Message) → IsWithinSome k o → IsClosed m → put a k (or_bound_at (or_last o b k) m) ≡ or_bound_at o (if b then a else m)
 put_last a k (Some i) b m h c = put_other a k i h
-put_last a k None true m h c = put_same a k
+put_last a k None true m h c = put_here a k
 put_last a k None false m h c = put_closed a k m c
 
 pub under_put : (a : Message) (k : ℕ) (ds : Names) (x : Word) (f : Word → Message) (w : Word) → k ≡ length ds → IsClosed (f w) → put a k (under_names (ds ++ x ∷ []) f w) ≡ under_names ds (with x a f) w

@@ -1,6 +1,7 @@
 -- The lines of a narration by their numbers.
-use Rattle.std.proofs.Common.{◌≡◌, ℕ, zero, suc, ◌<◌, List, [], ◌∷◌, length, map, get_or, slice_get, refl, sym, ap, ◌∙◌, subst, Some}
+use Rattle.std.proofs.Common.{◌≡◌, ℕ, zero, suc, ◌<◌, List, [], ◌∷◌, length, get_or, slice_get, refl, sym, ap, ◌∙◌, subst, Some}
 use Rattle.std.proofs.lemmas.Option.{slice_get_read}
+use Rattle.spi_term.proofs.Lists.{get_map}
 use Rattle.spi_text.specs.declared.lines.Span.{Span}
 use Rattle.spi_tree.specs.declared.tree.SWord.{SWord}
 use Rattle.spi_tree.specs.declared.tree.SMsg.{SMsg}
@@ -15,11 +16,6 @@ use Rattle.spi_scope.specs.Scope.{Names, number_of}
 use Rattle.spi_honest.specs.Narrated.{free_of}
 use Rattle.spi_honest.specs.Roles.{IsRole, HasRoles, HaveRoles, HasChannel, HaveChannels}
 use Rattle.spi_honest.specs.Stages.{IsRoleAt, IsLocalAt, IsPassAt}
-
-get_map : {A B : Type 0} (f : A → B) (xs : List A) (i : ℕ) {x : A} → slice_get xs i ≡ Some x → slice_get (map f xs) i ≡ Some (f x)
-get_map f [] i e = absurd cc
-get_map f (y ∷ ys) zero {x} e = let g : y ≡ x = cc in ap (λ z. Some (f z)) g
-get_map f (y ∷ ys) (suc i) e = get_map f ys i e
 
 roles_have : (roles : List SWord) (ls : List n.Line) (i : ℕ) {l : n.Line} → slice_get ls i ≡ Some l → HaveRoles roles ls → HasRoles roles l
 roles_have roles [] i e h = absurd cc

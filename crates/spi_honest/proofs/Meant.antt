@@ -7,6 +7,7 @@ use Rattle.spi_term.specs.Term.{Message, bound, name, unit, in_left, in_right, e
 use Rattle.spi_replay.specs.Holding.{IsClosed}
 use Rattle.spi_scope.specs.Scope.{Word, Names, number_of, Abbreviations}
 use Rattle.spi_scope.specs.Meaning.{name_meant, nested, message_in, messages_in, type_in, process_in}
+use Rattle.spi_scope.proofs.Indexing.{named_low}
 use Rattle.spi_honest.specs.Reading.{at_word, word_in, valued, all_valued, names_numbered}
 use Rattle.spi_honest.specs.Holds.{deeper, index_of, or_bound_at, under_names, Holds, AreClosed}
 use Rattle.spi_honest.proofs.Held.{IsWithinSome, index_within}
@@ -63,9 +64,6 @@ pub word_numbered : (xs : Names) (w : Word) → word_in (names_numbered xs) w �
 word_numbered [] w = refl
 word_numbered (x ∷ xs) w = name_if (bytes_eq x w) (length xs) (number_of xs w) (at_word (names_numbered xs) w) (word_numbered xs w)
 
-low_named : (k s i : ℕ) → i < k → name_meant k s (Some i) ≡ name i
-low_named k s i h = let e : nat_lt i k ≡ true = Rattle.std.proofs.Common.lt-ltb i k h in rw e refl
-
 high_named : (k s i : ℕ) → i + k < s → name_meant k s (Some (s - suc i)) ≡ bound i
 high_named k s i h =
     let e : nat_lt (s - suc i) k ≡ false = Rattle.std.proofs.lemmas.Bool.le-ltb (s - suc i) k (omega arith) in
@@ -74,7 +72,7 @@ high_named k s i h =
 
 named_behind : (k s : ℕ) (o x : Option ℕ) (n : ℕ) → s ≡ n + k → IsWithinSome n o → IsWithinSome k x → name_meant k s (or_number o s x) ≡ or_bound_at o (or_free_name x)
 named_behind k s None None n e h g = refl
-named_behind k s None (Some i) n e h g = low_named k s i g
+named_behind k s None (Some i) n e h g = named_low k s i g
 named_behind k s (Some i) x n e h g = high_named k s i (omega arith)
 
 pub named_under : (k : ℕ) (bs xs : Names) (w : Word) → k ≡ length xs → name_meant k (length (bs ++ xs)) (number_of (bs ++ xs) w) ≡ under_names bs (word_in (names_numbered xs)) w

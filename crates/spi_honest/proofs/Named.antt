@@ -2,6 +2,7 @@
 use Rattle.std.proofs.Common.{◌≡◌, ℕ, ◌+◌, ◌<◌, List, [], ◌∷◌, ◌++◌, length, map, take, get_or, cond, refl, sym, ap, ◌∙◌}
 use Rattle.std.specs.Prelude.{Some}
 use Rattle.std.specs.Str.{bytes_eq}
+use Rattle.std.proofs.lemmas.List.{map-id}
 use Rattle.std.proofs.lemmas.Map.Text.{hash_map_updates_str}
 use Rattle.indexmap.specs.IndexMap.{IndexMap, get_by, UpdatesBy}
 use denote.Ref.{Bor}
@@ -27,13 +28,9 @@ free_last : (xs : Names) (ws : List SWord) (w : SWord) → with_free xs (ws ++ w
 free_last xs [] w = refl
 free_last xs (v ∷ ws) w = free_last (v.word ∷ xs) ws w
 
-map_same : {A : Type 0} (xs : List A) → map (λ x. x) xs ≡ xs
-map_same [] = refl
-map_same (x ∷ xs) = ap (λ (r : List _). x ∷ r) (map_same xs)
-
 pub free_next : (xs : Names) (ws : List SWord) (i : ℕ) (w : SWord) → i < length ws → w ≡ get_or ws i w → w.word ∷ with_free xs (take i ws) ≡ with_free xs (take (i + 1) ws)
 free_next xs ws i w l e =
-    let front : take (i + 1) ws ≡ take i ws ++ w ∷ [] = sym (map_same (take (i + 1) ws)) ∙ map_take_more (λ x. x) ws i w l e ∙ ap (λ (r : List _). r ++ w ∷ []) (map_same (take i ws)) in
+    let front : take (i + 1) ws ≡ take i ws ++ w ∷ [] = sym (map-id (take (i + 1) ws)) ∙ map_take_more (λ x. x) ws i w l e ∙ ap (λ (r : List _). r ++ w ∷ []) (map-id (take i ws)) in
     sym (ap (with_free xs) front ∙ free_last xs (take i ws) w)
 
 -- one declaration more

@@ -1,5 +1,6 @@
 -- Roles by their numbers.
-use Rattle.std.proofs.Common.{◌≡◌, ℕ, suc, ◌+◌, ◌<◌, ◌≤◌, true, false, List, [], ◌∷◌, ◌++◌, length, take, get_or, slice_get, refl, sym, ap, ◌∙◌, subst, arith, Some, ⊎_elim}
+use Rattle.std.proofs.Common.{◌≡◌, ℕ, ◌+◌, ◌<◌, ◌≤◌, true, false, List, [], ◌∷◌, ◌++◌, length, take, get_or, slice_get, refl, sym, ap, ◌∙◌, subst, Some, ⊎_elim}
+use Rattle.std.proofs.lemmas.List.{take_all}
 use Rattle.std.proofs.lemmas.Option.{slice_get_read}
 use Rattle.std.specs.Str.{bytes_eq}
 use Rattle.std.proofs.lemmas.Slice.Eq.{bytes_eq-Decides}
@@ -20,12 +21,6 @@ role_not more i r w e h f g q m v =
     let t : take (i + 1) more ≡ take i more ++ r ∷ [] = ap (λ j. take j more) (sym (one_more i)) ∙ taken more i (slice_get_read more (length more) i r refl h e) in
     ⊎_elim (λ a. g q a v) (λ a. ⊎_elim (λ b. Rattle.std.proofs.Common.true≢false (sym ((bytes_eq-Decides r.word w).1 (ap (λ z. z.word) (sym b) ∙ v)) ∙ f)) (λ b. elim b [ ]) (in_cases a)) (in_append (take i more) (subst (λ l. In q l) t m))
 
-all_taken : {A : Type 0} (xs : List A) (i : ℕ) → length xs ≤ i → take i xs ≡ xs
-all_taken [] Rattle.std.proofs.Common.zero h = refl
-all_taken [] (suc i) h = refl
-all_taken (x ∷ xs) Rattle.std.proofs.Common.zero h = absurd (omega arith)
-all_taken (x ∷ xs) (suc i) h = ap (λ l. x ∷ l) (all_taken xs i (omega arith))
-
 pub role_first : (first : SWord) (more : List SWord) (i : ℕ) (w : Word) → IsRole (first ∷ more) w → length more ≤ i → ((q : SWord) → In q (take i more) → q.word ≡ w → ⊥) → IsRoleAt (first ∷ more) w 0
 role_first first more i w k h g =
-    (first, refl, ⊎_elim (λ e. ap (λ z. z.word) (sym e) ∙ k.word) (λ a. absurd (g k.role (subst (λ l. In k.role l) (sym (all_taken more i h)) a) k.word)) (in_cases k.is))
+    (first, refl, ⊎_elim (λ e. ap (λ z. z.word) (sym e) ∙ k.word) (λ a. absurd (g k.role (subst (λ l. In k.role l) (sym (take_all i more h)) a) k.word)) (in_cases k.is))

@@ -1,8 +1,10 @@
 -- The start of a narration, on a stage.
 use Rattle.std.proofs.Common.{◌≡◌, ℕ, zero, suc, ◌+◌, ◌<◌, ◌≤◌, List, [], ◌∷◌, ◌++◌, length, take, drop, map, slice_get, refl, sym, ap, ◌∙◌, subst, arith, Option, Some, None, option_to_list}
+use Rattle.std.proofs.lemmas.List.{drop_all}
 use Rattle.spi_tree.specs.declared.tree.SWord.{SWord}
 use Rattle.spi_heading.specs.Headings.{Shared}
 use Rattle.spi_narrate.specs.Narrations as n
+use Rattle.spi_term.proofs.Lists.{get_some}
 use Rattle.spi_term.specs.Spelling.{Spelling}
 use Rattle.spi_term.specs.Term.{stop}
 use Rattle.spi_run.specs.Reduction.{act, Event}
@@ -21,17 +23,6 @@ use Rattle.spi_honest.proofs.Opened.{can_share, share_more, can_spread, spread_m
 use Rattle.spi_honest.proofs.Playing.{dropped, taken, one_more}
 
 -- elements of lists
-pub get_some : {A : Type 0} (xs : List A) (i : ℕ) → i < length xs → (x : A) × (slice_get xs i ≡ Some x)
-get_some [] i h = absurd (omega arith)
-get_some (x ∷ xs) zero h = (x, refl)
-get_some (x ∷ xs) (suc i) h = get_some xs i (omega arith)
-
-all_dropped : {A : Type 0} (xs : List A) (i : ℕ) → length xs ≤ i → drop i xs ≡ []
-all_dropped [] zero h = refl
-all_dropped [] (suc i) h = refl
-all_dropped (x ∷ xs) zero h = absurd (omega arith)
-all_dropped (x ∷ xs) (suc i) h = all_dropped xs i (omega arith)
-
 taken_length : {A : Type 0} (xs : List A) (i : ℕ) → i ≤ length xs → length (take i xs) ≡ i
 taken_length [] zero h = refl
 taken_length [] (suc i) h = absurd (omega arith)
@@ -103,7 +94,7 @@ module _ (x : n.Narration) (file : Meant) (i : ℕ) (old : Stage) (h : SpreadsTo
 
 pub shares_spread : (x : n.Narration) (file : Meant) (i : ℕ) (st : Stage) (r : SWord) (rs : List SWord) → IsTellable x → x.roles ≡ r ∷ rs → length x.shared ≤ i → SharesTo x file i st → SpreadsTo x file 0 st
 shares_spread x file i st r rs ok e f h =
-    let s = spread_first r rs e ok.shared (subst (λ ss. Shares x file (take i x.shared) ss st.pool (stage_steps st)) (all_dropped x.shared i f) h.shares) in
+    let s = spread_first r rs e ok.shared (subst (λ ss. Shares x file (take i x.shared) ss st.pool (stage_steps st)) (drop_all i x.shared f) h.shares) in
     record {
       role = r;
       here = ap (λ l. slice_get l 0) e;
@@ -116,4 +107,4 @@ spread_told x file i st now ok f h a b c d =
     subst (λ p. Progress x file [] x.lines p (stage_steps now) (events_in now) now.places.items) (sym b)
     (subst (λ ss. Progress x file [] x.lines st.pool ss (events_in now) now.places.items) (sym (ap (λ v. map step v.items) c))
     (subst (λ es. Progress x file [] x.lines st.pool (stage_steps st) es now.places.items) (sym (ap (λ v. map event v.items) d ∙ h.quiet))
-    (settled now.places.items ok a (subst (λ rs. SpreadsRoles x file (take i x.roles) h.role rs st.pool (stage_steps st)) (all_dropped x.roles (suc i) f) h.spreads))))
+    (settled now.places.items ok a (subst (λ rs. SpreadsRoles x file (take i x.roles) h.role rs st.pool (stage_steps st)) (drop_all (suc i) x.roles f) h.spreads))))

@@ -1,6 +1,6 @@
 -- A line of one role, told on a stage.
 use Rattle.std.proofs.Common.{◌≡◌, ℕ, zero, suc, ◌+◌, ◌≤◌, List, [], ◌∷◌, ◌++◌, length, take, drop, slice_get, get_or, refl, sym, ap, ◌∙◌, subst, arith, Option, Some, Result, Ok, Err, ◌⊎◌, inl, inr, ⊎_elim}
-use Rattle.std.specs.Prelude.{IfErr, OnOk}
+use Rattle.std.specs.Prelude.{IfErr}
 use Rattle.std.proofs.lemmas.Option.{get_or_from_slice_get}
 use Rattle.spi_tree.specs.declared.tree.SWord.{SWord}
 use Rattle.spi_narrate.specs.Narrations as n
@@ -21,10 +21,6 @@ use Rattle.spi_honest.specs.Stages.{TookStep, IsRoomy, IsStepRefused, IsRoleAt, 
 use Rattle.spi_rules.proofs.Typing.{at_below}
 use Rattle.spi_honest.proofs.Settled.{apart_of, at_in}
 use Rattle.spi_honest.proofs.Telling.{LocalTold, local_told, local_not_ready, local_progress}
-
-pub on_ok : {T E P Q : Type 0} (r : Result T E) → (P → Q) → OnOk r P → OnOk r Q
-on_ok (Ok x) f h = f h
-on_ok (Err e) f h = tt
 
 pub if_err : {T E : Type 0} {P Q : E → Type 0} (r : Result T E) → ((e : E) → P e → Q e) → IfErr r P → IfErr r Q
 if_err (Ok x) f h = tt

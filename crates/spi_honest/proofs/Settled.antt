@@ -4,7 +4,7 @@ use Rattle.std.proofs.lemmas.List.{append-nil}
 use Rattle.spi_tree.specs.declared.tree.SWord.{SWord}
 use Rattle.spi_narrate.specs.Narrations as n
 use Rattle.spi_term.specs.Lists.{At, at_first, at_later, In, in_first, in_later}
-use Rattle.spi_term.proofs.Lists.{at_unique, get_at}
+use Rattle.spi_term.proofs.Lists.{at_unique, get_at, in_at}
 use Rattle.spi_term.specs.Term.{Message, Process, stop}
 use Rattle.spi_run.specs.Reduction.{Step}
 use Rattle.spi_rules.proofs.Typing.{at_below}
@@ -27,10 +27,6 @@ use Rattle.spi_honest.proofs.Opened.{place_at, each_length, each_more}
 use Rattle.spi_heading.specs.Headings.{with_shared}
 
 -- where an element stands
-pub in_at : {A : Type 0} {x : A} {xs : List A} → In x xs → (j : ℕ) × At xs j x
-in_at in_first = (0, at_first)
-in_at (in_later i) = let a = in_at i in (suc a.0, at_later a.1)
-
 pub at_in : {A : Type 0} {x : A} {xs : List A} {j : ℕ} → At xs j x → In x xs
 at_in at_first = in_first
 at_in (at_later h) = in_later (at_in h)

@@ -1,22 +1,15 @@
 -- Why a step that can be taken isn't refused.
-use Rattle.std.proofs.Common.{◌≡◌, ℕ, ◌<◌, ◌≤◌, Bool, true, false, List, [], ◌∷◌, length, refl, sym, ap, ◌∙◌, subst, arith, Option, ◌⊎◌, inl, inr, ⊎_elim, true≢false, eq-eqb}
+use Rattle.std.proofs.Common.{◌≡◌, ℕ, ◌<◌, ◌≤◌, Bool, true, false, List, [], ◌∷◌, refl, sym, ap, ◌∙◌, subst, arith, Option, ◌⊎◌, inl, inr, ⊎_elim, true≢false, eq-eqb}
 use Rattle.std.specs.Prelude.{◌==◌, ◌||◌, IsTrue}
 use Rattle.std.specs.List.{list_any}
 use Rattle.std.proofs.lemmas.Bool.{eqb-true}
 use Rattle.spi_term.specs.Lists.{In, in_first, in_later}
-use Rattle.spi_term.proofs.Lists.{in_cases}
-use Rattle.spi_run.specs.Reduction.{Configuration, Step, Event, Takes, takes_act, takes_talk}
-use Rattle.spi_run.proofs.Once.{takes_once}
+use Rattle.spi_run.specs.Reduction.{Step, Event}
 use Rattle.spi_replay.specs.declared.fault.StepFault.{StepFault}
 use Rattle.spi_replay.specs.declared.fault.StepFault.TheVariants as faults
-use Rattle.spi_replay.specs.Stepping.{Pooled, IsTaken, places_named, FirstOutside, outside_here, outside_later, RefusesPoolStep, no_place, not_ready, too_large, too_many}
+use Rattle.spi_replay.specs.Stepping.{Pooled, IsTaken, FirstOutside, outside_here, outside_later, RefusesPoolStep, no_place, not_ready, too_large, too_many}
+use Rattle.spi_replay.proofs.Taken.{taken_never}
 use Rattle.spi_honest.specs.Stages.{IsRoomy}
-use Rattle.spi_rules.proofs.Typing.{at_below}
-
-takes_inside : {c d : Configuration} {s : Step} {e : Option Event} → Takes c s e d → (i : ℕ) → In i (places_named s) → i < length c.places
-takes_inside {c} (takes_act {i = j} {ps = ps} a h) i m = ⊎_elim (λ e. subst (λ k. k < length ps) (sym e) (at_below a)) (λ x. elim x [ ]) (in_cases m)
-takes_inside (takes_talk {i = j} {j = k} {ps = ps} a b h) i m =
-    ⊎_elim (λ e. subst (λ k. k < length ps) (sym e) (at_below a)) (λ x. ⊎_elim (λ e. subst (λ k. k < length ps) (sym e) (at_below b)) (λ y. elim y [ ]) (in_cases x)) (in_cases m)
 
 outside : {n : ℕ} {is : List ℕ} {i : ℕ} → FirstOutside n is i → (j : ℕ) × In j is × (n ≤ j)
 outside (outside_here {i = i} l) = (i, in_first, l)
@@ -25,14 +18,8 @@ outside (outside_later l o) = let (j, m, h) = outside o in (j, in_later m, h)
 inside_out : {n : ℕ} {is : List ℕ} {i : ℕ} → ((j : ℕ) → In j is → j < n) → FirstOutside n is i → ⊥
 inside_out h o = let (j, m, l) = outside o in let b = h j m in omega (arith, b, l)
 
-taken_refuses : {p new : Pooled} {s : Step} {e : Option Event} {f : StepFault} → IsTaken p s e new → RefusesPoolStep p.configuration p.most s f → ⊥
-taken_refuses t (no_place o) = inside_out (takes_inside t.takes) o
-taken_refuses t (not_ready h g) = g (_, _, t.takes)
-taken_refuses t (too_large r l) = omega (arith, t.small, l)
-taken_refuses t (too_many h s l) = let u = takes_once h t.takes in let z = ap (λ d. length d.places) u.1 in omega (arith, z, t.few, l)
-
 pub taken_fault : {p new : Pooled} {s : Step} {e : Option Event} {f : StepFault} → IsTaken p s e new → (f ≡ faults.NoMemory → ⊥) → (f ≡ faults.NoMemory) ⊎ RefusesPoolStep p.configuration p.most s f → ⊥
-taken_fault t d h = ⊎_elim d (λ r. taken_refuses t r) h
+taken_fault t d h = ⊎_elim d (λ r. taken_never t r) h
 
 place_refuses : {p : Pooled} {s : Step} {f : StepFault} (i : ℕ) → IsRoomy p s → f ≡ faults.NoPlace i → RefusesPoolStep p.configuration p.most s f → ⊥
 place_refuses i h e (no_place o) = inside_out h.inside o

@@ -18,6 +18,7 @@ use Rattle.spi_infer.specs.Forms.{keep}
 use Rattle.spi_infer.specs.Passes.{Note, act_by, stuck_top_by, stuck_two_by, after_shape, both_shape}
 use Rattle.spi_infer.specs.Accounts.{BelowIn, MayBelowIn, Behind, AfterForm, BothForm, Tops, IsBeforeNode}
 use Rattle.spi_count.proofs.Summed.{numbers}
+use Rattle.spi_infer.proofs.Formed.{kept_keep}
 
 pub tops_push : (At : ℕ → Message → Type 0) (os ns : List (Option Sum)) (o : Option Sum) (e : Option Effect) (st : List (Option Effect)) → ns ≡ os ++ o ∷ [] → CountsFor At o e → TopsStand At (reverse os) st → TopsStand At (reverse ns) (e ∷ st)
 tops_push At os ns o e st n h t = subst (λ l. TopsStand At l (e ∷ st)) (sym (ap reverse n ∙ reverse-append os (o ∷ []))) (h, t)
@@ -54,10 +55,6 @@ behind_top (prefix_at k p j) es st b = b
 behind_top (fork_at k f a r) es [] b = b
 behind_top (fork_at k f a r) es (o ∷ st) b = b.0
 
-keep_stands : (At : ℕ → Message → Type 0) (r : Option Sum) (b : Bool) (o : Option Effect) → b ≡ true → CountsFor At r o → CountsFor At r (keep b o)
-keep_stands At r true o e t = t
-keep_stands At r false o e t = absurd (cc)
-
 keep_none : (b : Bool) (o : Option Effect) → b ≡ true → is_none o ≡ is_none (keep b o)
 keep_none true o e = refl
 keep_none false o e = absurd (cc)
@@ -74,7 +71,7 @@ module _ (s : Store) (keys : Keys) (x : Shape) (o : OwnNote) (os rest : List (Op
       go (None ∷ st) l t = absurd t.0
       go (Some es ∷ st) l t =
           tops_push (with_keys s keys) rest new next (keep n.fine (after_shape x n.paid es)) st e
-          (keep_stands (with_keys s keys) next n.fine (after_shape x n.paid es) n_fine (h n.paid es b.keyed (b.noted.1 n_fine) t.0 (behind_top x es st l))) t.1
+          (kept_keep (with_keys s keys) next n.fine (after_shape x n.paid es) n_fine (h n.paid es b.keyed (b.noted.1 n_fine) t.0 (behind_top x es st l))) t.1
 
   pub one_stuck : is_none next ≡ stuck_top_by (after_shape x n.paid) n.fine st
   one_stuck = go st b.behind (tops_top (with_keys s keys) os rest (Some sum) st pop b.tops)

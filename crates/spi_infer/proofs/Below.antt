@@ -11,13 +11,10 @@ use Rattle.spi_message.specs.Forms.{more, on_first, on_rest, cast_effect_of}
 use Rattle.spi_infer.specs.Forms.{unless_blocked, keep, checked, after_prefix, both, by_effect, by_effects, effect_of, prefix_ok, fork_ok, leaf_ok, paid_by}
 use Rattle.spi_message.proofs.Opened.{length_more, length_first, length_rest}
 use Rattle.spi_count.proofs.Below.{bound_over, below_joined, below_one, below_minus, below_over, below_bound, below_more}
+use Rattle.spi_infer.proofs.Least.{after_some, unless_some}
 
 next : (k : ℕ) (es : Effect) → Below (k + 1) es → Below (suc k) es
 next k es = below_more (k + 1) (suc k) es (omega arith)
-
-unless_no : (b : Bool) (es fs : Effect) → unless_blocked b es ≡ Some fs → (b ≡ false) × (es ≡ fs)
-unless_no true es fs h = cc
-unless_no false es fs h = (refl, let e : es ≡ fs = cc in e)
 
 keep_yes : (b : Bool) (o : Option Effect) (fs : Effect) → keep b o ≡ Some fs → o ≡ Some fs
 keep_yes true o fs h = h
@@ -25,7 +22,7 @@ keep_yes false o fs h = cc
 
 below_unless : (k : ℕ) (es fs gs : Effect) → Below (k + 1) es → (Below k es → Below k fs) → unless_blocked (mentions k es) fs ≡ Some gs → Below k gs
 below_unless k es fs gs h f e =
-    let u = unless_no (mentions k es) fs gs e in
+    let u = unless_some (mentions k es) fs gs e in
     subst (Below k) u.1 (f (below_bound k es (next k es h) u.0))
 
 below_cast : (k : ℕ) (t : Ty) → OfTy (MessageOver k) 0 t → Below k (cast_effect_of t)
@@ -46,7 +43,7 @@ pub below_after : (k : ℕ) (paid : Option Effect) (s : Prefix) (es fs : Effect)
 below_after k paid (Recvs m t) es fs o h e = below_unless k es es fs h (λ x. x) e
 below_after k paid (Serves m t) es fs o h e = below_unless k es es fs h (λ x. x) (keep_yes (are_many es) (unless_blocked (mentions k es) es) fs e)
 below_after k paid (Splits m t u) es fs o h e =
-    let x = unless_no (mentions k es || mentions (suc k) es) es fs e in
+    let x = unless_some (mentions k es || mentions (suc k) es) es fs e in
     let y = or_false (mentions k es) (mentions (suc k) es) x.0 in
     let h' : Below (suc (suc k)) es = λ a n. let l = h a n in omega (arith, l) in
     let g : Below (suc k) es = below_bound (suc k) es h' y.1 in
@@ -65,13 +62,9 @@ below_after k paid (Freshes t) es fs o h e =
 pub below_both : (k : ℕ) (f : Fork) (es fs gs : Effect) → Below (k + fork_binds f) es → Below (k + fork_binds f) fs → both k f es fs ≡ Some gs → Below k gs
 below_both k Pars es fs gs h j e = below_same e (below_joined es fs (below_zero es h) (below_zero fs j))
 below_both k (Branches m t u) es fs gs h j e =
-    let x = unless_no (mentions k es || mentions k fs) (greater es fs) gs e in
+    let x = unless_some (mentions k es || mentions k fs) (greater es fs) gs e in
     let y = or_false (mentions k es) (mentions k fs) x.0 in
     subst (Below k) x.1 (below_joined es (minus fs es) (below_bound k es (next k es h) y.0) (below_minus fs es (below_bound k fs (next k fs j) y.1)))
-
-by_some : (f : Effect → Option Effect) (o : Option Effect) (fs : Effect) → by_effect f o ≡ Some fs → (es : Effect) × (o ≡ Some es) × (f es ≡ Some fs)
-by_some f None fs e = cc
-by_some f (Some es) fs e = (es, refl, e)
 
 by_both : (f : Effect → Effect → Option Effect) (o p : Option Effect) (gs : Effect) → by_effects f o p ≡ Some gs → (es fs : Effect) × (o ≡ Some es) × (p ≡ Some fs) × (f es fs ≡ Some gs)
 by_both f None p gs e = cc
@@ -83,7 +76,7 @@ pub below_effect : (q : Process) (e : Env) (n : ℕ) (es : Effect) → n ≡ len
 below_effect (leaf l) e n es h o f = below_same (keep_yes (leaf_ok e l) (Some []) es f) (λ a n. elim n [ ])
 below_effect (prefix s p) e n es h o f =
     let g = keep_yes (prefix_ok e s) (by_effect (after_prefix (length e) (paid_by e s) s) (effect_of p (e ++ more e s))) es f in
-    let (fs, is, then) = by_some (after_prefix (length e) (paid_by e s) s) (effect_of p (e ++ more e s)) es g in
+    let (fs, is, then) = after_some (after_prefix (length e) (paid_by e s) s) (effect_of p (e ++ more e s)) es g in
     let l : n + binds s ≡ length (e ++ more e s) = omega (arith, h, length-append e (more e s), length_more e s) in
     below_after n (paid_by e s) s fs es o.0 (below_effect p (e ++ more e s) (n + binds s) fs l o.1 is) (ap (λ n. after_prefix n (paid_by e s) s fs) h ∙ then)
 below_effect (fork s p q) e n es h o f =

@@ -5,6 +5,7 @@ use Rattle.std.proofs.lemmas.Bool.{cases_lt}
 use Rattle.spi_term.specs.Term.{Prefix, Fork, Leaf, Process, leaf, prefix, fork, binds, fork_binds, process_size}
 use Rattle.spi_term.specs.Spelling.{Shape, prefix_at, fork_at, flat, numbered, spelled, IsSmall}
 use Rattle.spi_term.specs.Arena.{scope_of}
+use Rattle.spi_term.proofs.Lists.{head_is, drop_get}
 use Rattle.spi_term.proofs.Numbers.{size_numbered, small_node}
 use Rattle.spi_rules.specs.Environment.{Env, untrusted}
 use Rattle.spi_rules.specs.Blocking.{NodeOf}
@@ -14,8 +15,7 @@ use Rattle.spi_infer.specs.Reaching.{Descends}
 use Rattle.spi_message.proofs.Opened.{numbered_leaf, numbered_prefix, numbered_fork, size_enter}
 use Rattle.spi_infer.proofs.Reach.{ReachesNode, reach_root, reach_prefix, reach_first, reach_rest}
 use Rattle.spi_infer.proofs.Blocked.{reach_within}
-use Rattle.spi_infer.proofs.Nodes.{node_of, reached_of}
-use Rattle.spi_infer.proofs.Scanning.{drop_at_get}
+use Rattle.spi_infer.proofs.Nodes.{node_of, reached_of, at_number}
 use Rattle.spi_infer.proofs.Located.{located}
 
 -- node i is on the way to `node`
@@ -33,24 +33,18 @@ pub record Nearer (env : Env) (p : Process) (node i j : ℕ) (e : Env) : Type 0 
 pub toward_root : (env : Env) (p : Process) (node : ℕ) → node < process_size p → Toward env p node 0 env
 toward_root env p node l = record { process = p; reached = reach_root; from = omega arith; before = omega (arith, l) }
 
-at_place : {e e' : Env} {p q : Process} {i j : ℕ} → i ≡ j → ReachesNode e p i e' q → ReachesNode e p j e' q
-at_place {e} {e'} {p} {q} h r = subst (λ n. ReachesNode e p n e' q) h r
-
 reach_then : {e e' e'' : Env} {p p' p'' : Process} {i j : ℕ} → ReachesNode e p i e' p' → ReachesNode e' p' j e'' p'' → ReachesNode e p (i + j) e'' p''
-reach_then {j = j} reach_root s = at_place (let z : j ≡ 0 + j = omega arith in z) s
-reach_then {j = j} (reach_prefix {s = f} {i = i} r) s = at_place (let z : suc (i + j) ≡ suc i + j = omega arith in z) (reach_prefix {s = f} (reach_then r s))
-reach_then {j = j} (reach_first {f = f} {i = i} r) s = at_place (let z : suc (i + j) ≡ suc i + j = omega arith in z) (reach_first {f = f} (reach_then r s))
+reach_then {j = j} reach_root s = at_number (let z : j ≡ 0 + j = omega arith in z) s
+reach_then {j = j} (reach_prefix {s = f} {i = i} r) s = at_number (let z : suc (i + j) ≡ suc i + j = omega arith in z) (reach_prefix {s = f} (reach_then r s))
+reach_then {j = j} (reach_first {f = f} {i = i} r) s = at_number (let z : suc (i + j) ≡ suc i + j = omega arith in z) (reach_first {f = f} (reach_then r s))
 reach_then {j = j} (reach_rest {f = f} {p = p} {i = i} {j = n} r g) s =
-    at_place (let z : suc (n + j) ≡ suc n + j = omega arith in z) (reach_rest {f = f} (reach_then r s) (let z : n + j ≡ process_size p + (i + j) = omega (arith, g) in z))
-
-head_is : {A : Type 0} {x y : A} {xs ys : List A} → x ∷ xs ≡ y ∷ ys → x ≡ y
-head_is e = cc
+    at_number (let z : suc (n + j) ≡ suc n + j = omega arith in z) (reach_rest {f = f} (reach_then r s) (let z : n + j ≡ process_size p + (i + j) = omega (arith, g) in z))
 
 module _ (k : ℕ) (p : Process) (env : Env) (names : k ≡ length env) (node i : ℕ) (e : Env) (x : Shape) (at : slice_get (spelled k p) i ≡ Some x) where
-  first_is : {q : Process} → ReachesNode env p i e q → (rest : List Shape) × (x ∷ drop (i + 1) (spelled k p) ≡ flat (0 + i) (length e) (numbered [] (length e) q) ++ rest)
+  first_is : {q : Process} → ReachesNode env p i e q → (rest : List Shape) × (x ∷ drop (suc i) (spelled k p) ≡ flat (0 + i) (length e) (numbered [] (length e) q) ++ rest)
   first_is {q} r =
       let w = located 0 r in
-      (w.rest, sym (drop_at_get (spelled k p) i x at) ∙ ap (λ k. drop i (spelled k p)) names ∙ w.shapes)
+      (w.rest, sym (drop_get (spelled k p) i x at) ∙ ap (λ k. drop i (spelled k p)) names ∙ w.shapes)
 
   scope_at : (q : Process) → ReachesNode env p i e q → scope_of x ≡ length e
   scope_at (leaf l) r =
@@ -84,7 +78,7 @@ module _ (k : ℕ) (p : Process) (env : Env) (names : k ≡ length env) (node i 
     nearer_prefix s q r b d =
         let z : i + 1 ≡ j = omega (arith, d.0) in
         let n = size_enter (binds s) (length e) q in
-        nearer_in d.1 (at_place z (reach_then r (at_place (let o : suc 0 ≡ 1 = omega arith in o) (reach_prefix {s = s} reach_root)))) (omega (arith, d.0)) (omega (arith, d.0)) (omega (arith, d.0, b, n))
+        nearer_in d.1 (at_number z (reach_then r (at_number (let o : suc 0 ≡ 1 = omega arith in o) (reach_prefix {s = s} reach_root)))) (omega (arith, d.0)) (omega (arith, d.0)) (omega (arith, d.0, b, n))
 
     nearer_fork : (f : Fork) (q q' : Process) (r : ℕ) → r ≡ suc (0 + i) + process_size q → ReachesNode env p i e (fork f q q') → node < i + process_size (fork f q q') → Descends (fork_at (length e) f (suc (0 + i)) r) node e j e' → Next
     nearer_fork f q q' r n w b d = ⊎_elim here there (cases_lt node r)
@@ -94,7 +88,7 @@ module _ (k : ℕ) (p : Process) (env : Env) (names : k ≡ length env) (node i 
             let g = d.0 l in
             let z : i + 1 ≡ j = omega (arith, g.0) in
             let m = size_enter (fork_binds f) (length e) q in
-            nearer_in g.1 (at_place z (reach_then w (reach_first {f = f} {q = q'} reach_root))) (omega (arith, g.0)) (omega (arith, g.0)) (omega (arith, g.0, l, n, m))
+            nearer_in g.1 (at_number z (reach_then w (reach_first {f = f} {q = q'} reach_root))) (omega (arith, g.0)) (omega (arith, g.0)) (omega (arith, g.0, l, n, m))
 
         there : r ≤ node → Next
         there l =
@@ -102,7 +96,7 @@ module _ (k : ℕ) (p : Process) (env : Env) (names : k ≡ length env) (node i 
             let z : i + suc (process_size q) ≡ j = omega (arith, g.0, n) in
             let m = size_enter (fork_binds f) (length e) q' in
             let o : process_size q ≡ process_size q + 0 = omega arith in
-            nearer_in g.1 (at_place z (reach_then w (reach_rest {f = f} {p = q} reach_root o))) (omega (arith, g.0, n)) (omega (arith, g.0, l)) (omega (arith, g.0, n, b, m))
+            nearer_in g.1 (at_number z (reach_then w (reach_rest {f = f} {p = q} reach_root o))) (omega (arith, g.0, n)) (omega (arith, g.0, l)) (omega (arith, g.0, n, b, m))
 
     nearer_by : (q : Process) → ReachesNode env p i e q → node < i + process_size q → Descends x node e j e' → Next
     nearer_by (leaf l) r b d = nearer_leaf l b
@@ -121,15 +115,11 @@ module _ (k : ℕ) (p : Process) (env : Env) (names : k ≡ length env) (node i 
     pub nearer : Toward env p node i e → Descends x node e j e' → Next
     nearer t d = nearer_by t.process t.reached t.before d
 
-pub length_untrusted : (k : ℕ) → length (untrusted k) ≡ k
-length_untrusted zero = refl
-length_untrusted (suc k) = ap suc (length_untrusted k)
-
 -- the node itself
 pub toward_end : (k : ℕ) (p : Process) (node i : ℕ) (e : Env) → Toward (untrusted k) p node i e → node ≤ i → IsReached k p node e
 toward_end k p node i e t l =
     let z : i ≡ node = omega (arith, t.from) in
-    (t.process, node_of (at_place z t.reached))
+    (t.process, node_of (at_number z t.reached))
 
 -- each node is reached
 abbrev pub HasNodeAt : Env → Process → ℕ → Type 0

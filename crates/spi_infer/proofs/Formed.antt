@@ -2,9 +2,9 @@
 use Rattle.std.proofs.Common.{◌≡◌, refl, sym, subst, ℕ, zero, suc, ◌+◌, ◌-◌, ◌*◌, ◌<◌, ◌≤◌, Bool, true, false, ◌||◌, [], ◌∷◌, Option, Some, None, ◌⊎◌, inl, inr, ⊎_elim, arith}
 use Rattle.std.specs.Prelude.{slice_get, max}
 use Rattle.std.proofs.lemmas.Bool.{or_left, or_right}
-use Rattle.spi_intern.proofs.Lists.{some_one}
 use Rattle.spi_term.specs.Term.{Message, name, ends, checks, many, Effect, Ty, nonce, Casts, Pars}
 use Rattle.spi_term.specs.Spelling.{prefix_at, fork_at}
+use Rattle.spi_term.proofs.Lists.{some_is}
 use Rattle.spi_effect.specs.Made.{are_many, mentions, minus, greater}
 use Rattle.spi_effect.proofs.Made.{both_false}
 use Rattle.spi_intern.specs.declared.store.Store.{Store}
@@ -45,7 +45,7 @@ pub unless_some : (At : ℕ → Message → Type 0) (sum : Sum) (b : Bool) (es :
 unless_some At sum true es t = absurd t
 unless_some At sum false es t = (refl, t)
 
-kept_keep : (At : ℕ → Message → Type 0) (r : Option Sum) (b : Bool) (o : Option Effect) → b ≡ true → CountsFor At r o → CountsFor At r (keep b o)
+pub kept_keep : (At : ℕ → Message → Type 0) (r : Option Sum) (b : Bool) (o : Option Effect) → b ≡ true → CountsFor At r o → CountsFor At r (keep b o)
 kept_keep At r true o e t = t
 kept_keep At r false o e t = absurd (cc)
 
@@ -123,7 +123,7 @@ branch_both k a b a' b' c h j g s keys es fs kd t u x y =
 
 -- the label that is kept is the node's
 label_at : (P : ℕ → Type 0) {own : Own} {label id : MsgId} → ((id : MsgId) → own ≡ Label id → Some label ≡ Some id) → own ≡ Label id → P id.place → P label.place
-label_at P {label = label} {id = id} f e g = let i : label ≡ id = some_one (f id e) in subst (λ (i : MsgId). P i.place) (sym i) g
+label_at P {label = label} {id = id} f e g = let i : label ≡ id = some_is (f id e) in subst (λ (i : MsgId). P i.place) (sym i) g
 
 pub begin_is : (keys : Keys) (own : Own) (label : MsgId) (old mid new : Sum) → ((id : MsgId) → own ≡ Label id → Some label ≡ Some id)
     → TakesAtom keys (A.End label) old mid → TakesAtom keys (A.Many label) mid new → OwnBegin keys own old (Some new)

@@ -1,17 +1,17 @@
 -- Where the nodes of a node's process stand, and what the passes see of them.
-use Rattle.std.proofs.Common.{◌≡◌, ℕ, zero, suc, ◌+◌, ◌<◌, ◌≤◌, List, [], ◌∷◌, ◌++◌, length, take, drop, refl, sym, ap, ◌∙◌, subst, arith, Option, append-nil, append_assoc, length-append}
-use Rattle.spi_term.specs.Term.{Effect, Process, leaf, prefix, fork, binds, fork_binds, process_size, name}
+use Rattle.std.proofs.Common.{◌≡◌, ℕ, zero, suc, ◌+◌, ◌≤◌, List, [], ◌∷◌, ◌++◌, length, drop, refl, sym, ap, ◌∙◌, subst, arith, Option, append-nil, append_assoc, length-append}
+use Rattle.std.proofs.lemmas.List.{take_all}
+use Rattle.spi_term.specs.Term.{Effect, Process, leaf, prefix, fork, binds, fork_binds, process_size}
 use Rattle.spi_term.specs.Names.{MessageOver, OfProcess, ProcessOver}
 use Rattle.spi_term.specs.Spelling.{Shape, flat, numbered, spelled}
 use Rattle.spi_term.proofs.Numbers.{size_numbered}
 use Rattle.spi_term.proofs.Rows.{length_flat}
-use Rattle.spi_term.proofs.Terms.{over_put_process, over_more_process}
-use Rattle.spi_term.specs.Substitution.{process_map, put}
+use Rattle.spi_term.proofs.Terms.{over_more_process}
 use Rattle.spi_rules.specs.Environment.{Env}
 use Rattle.spi_message.specs.Forms.{enter, more, on_first, on_rest}
 use Rattle.spi_infer.specs.Forms.{effect_of}
 use Rattle.spi_infer.specs.Passes.{Note, scan, run_notes}
-use Rattle.spi_message.proofs.Opened.{length_more, length_first, length_rest, numbered_prefix, numbered_fork, size_enter}
+use Rattle.spi_message.proofs.Opened.{length_more, length_first, length_rest, numbered_prefix, numbered_fork, size_enter, over_enter}
 use Rattle.spi_infer.proofs.Passes.{notes, scan_flat, run_flat}
 use Rattle.spi_infer.proofs.Reach.{ReachesNode, reach_root, reach_prefix, reach_first, reach_rest}
 use Rattle.spi_infer.proofs.Blocked.{reach_within}
@@ -130,16 +130,12 @@ located {e = e} {e' = e'} {q = p'} at (reach_rest {f = f} {p = p} {q = q} {i = i
           ∙ w.seen;
     }
 
-take_whole : (e : Env) → take (length e) e ≡ e
-take_whole [] = refl
-take_whole (t ∷ e) = ap (λ l. t ∷ l) (take_whole e)
-
 -- what the forward pass notes
 pub scan_is : (k : ℕ) (p : Process) (env : Env) → k ≡ length env → scan 0 env [] (spelled k p) ≡ notes (numbered [] k p) env
 scan_is k p env names =
     let nodes = spelled k p in
     let tree = numbered [] k p in
-    let s = scan_flat tree env env [] [] 0 k [] names (ap (λ n. take n env) names ∙ take_whole env) refl tt in
+    let s = scan_flat tree env env [] [] 0 k [] names (take_all k env (omega (arith, names))) refl tt in
     ap (scan 0 env []) (sym (append-nil nodes)) ∙ s.is ∙ append-nil (notes tree env)
 
 -- the backward pass has come to the effect of node i's process there
@@ -165,12 +161,6 @@ runs_to {env = env} {e = e} {p = p} {q = q} {i = i} k n r =
     subst (λ k. RunsTo k p env i e q) (sym n) (runs_at r)
 
 -- the process of a node is over the names in scope there
-over_enter : (b k n : ℕ) (p : Process) → k + b ≤ n → OfProcess (MessageOver n) b p → ProcessOver n (enter b k p)
-over_enter zero k n p l o = o
-over_enter (suc b) k n p l o =
-    let low : k < n = omega (arith, l) in
-    over_enter b (suc k) n (process_map (put (name k)) b p) (omega (arith, l)) (over_put_process n (name k) low b p o)
-
 over_inside : (e g : Env) (b : ℕ) (p : Process) → length g ≡ b → OfProcess (MessageOver (length e)) (0 + b) p → ProcessOver (length (e ++ g)) (enter b (length e) p)
 over_inside e g b p n o =
     let m = length-append e g in

@@ -1,18 +1,12 @@
 -- One node of the forward pass.
-use Rattle.std.proofs.Common.{◌≡◌, ℕ, zero, suc, ◌+◌, ◌-◌, List, [], ◌∷◌, ◌++◌, take, drop, Some, sym, ap, ◌∙◌, refl, arith, append_assoc, eq-eqb}
+use Rattle.std.proofs.Common.{◌≡◌, ℕ, suc, ◌+◌, ◌-◌, List, [], ◌∷◌, ◌++◌, take, drop, Some, sym, ap, ◌∙◌, refl, arith, append_assoc, eq-eqb}
 use Rattle.std.specs.Prelude.{slice_get, if◌then◌else◌}
 use Rattle.spi_term.specs.Term.{Ty}
 use Rattle.spi_term.specs.Spelling.{Shape}
 use Rattle.spi_term.specs.Arena.{scope_of}
+use Rattle.spi_term.proofs.Lists.{drop_get}
 use Rattle.spi_rules.specs.Environment.{Env}
 use Rattle.spi_infer.specs.Passes.{Note, note_of, entered, Wait, wait, waiting, settled, left_waiting, IsCalm, scan}
-
-pub drop_at_get : (ss : List Shape) (i : ℕ) (x : Shape) → slice_get ss i ≡ Some x → drop i ss ≡ x ∷ drop (i + 1) ss
-drop_at_get [] i x e = absurd (cc)
-drop_at_get (y ∷ ss) zero x e = let f : y ≡ x = cc in ap (λ y. y ∷ ss) f
-drop_at_get (y ∷ ss) (suc i) x e =
-    let n : suc (i + 1) ≡ suc i + 1 = omega arith in
-    drop_at_get ss i x e ∙ ap (λ m. x ∷ drop m (y ∷ ss)) n
 
 pub calm_settled : (i k : ℕ) (e : Env) (ws : List Wait) → IsCalm i ws → settled i k e ws ≡ take k e
 calm_settled i k e [] h = refl
@@ -37,5 +31,5 @@ scan_more ns e cut e' ws ws' ss i x n g c h v w =
     ∙ ap (λ f. ns ++ note_of cut x ∷ scan (i + 1) f ws' (drop (i + 1) ss)) v
     ∙ ap (λ f. ns ++ note_of f x ∷ scan (i + 1) (entered f x) ws' (drop (i + 1) ss)) c
     ∙ ap (λ w. ns ++ note_of (settled i (scope_of x) e ws) x ∷ scan (i + 1) (entered (settled i (scope_of x) e ws) x) w (drop (i + 1) ss)) w
-    ∙ ap (λ j. ns ++ note_of (settled i (scope_of x) e ws) x ∷ scan j (entered (settled i (scope_of x) e ws) x) (waiting (left_waiting i ws) x) (drop (i + 1) ss)) z
-    ∙ ap (λ l. ns ++ scan i e ws l) (sym (drop_at_get ss i x g))
+    ∙ ap (λ j. ns ++ note_of (settled i (scope_of x) e ws) x ∷ scan j (entered (settled i (scope_of x) e ws) x) (waiting (left_waiting i ws) x) (drop j ss)) z
+    ∙ ap (λ l. ns ++ scan i e ws l) (sym (drop_get ss i x g))

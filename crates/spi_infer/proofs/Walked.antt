@@ -7,6 +7,7 @@ use Rattle.spi_term.specs.Term.{Message, Effect, Prefix, Checks, Casts, Process,
 use Rattle.spi_term.specs.Names.{ProcessOver}
 use Rattle.spi_term.specs.Spelling.{Shape, leaf_at, prefix_at, fork_at, flat, numbered, spelled}
 use Rattle.spi_term.specs.Arena.{InScope}
+use Rattle.spi_term.proofs.Lists.{drop_get}
 use Rattle.spi_term.proofs.Numbers.{numbered_in_scope, length_spelled}
 use Rattle.spi_rules.specs.Environment.{Env}
 use Rattle.spi_intern.specs.declared.store.Store.{Store}
@@ -77,16 +78,6 @@ behind_drop (suc i) (x ∷ ss) [] h = none_behind (drop i ss)
 behind_drop (suc i) (x ∷ ss) (b ∷ bs) h = behind_drop i ss bs h.1
 
 -- the place of a node
-drop_at : {A : Type 0} (xs : List A) (i : ℕ) (x : A) → slice_get xs i ≡ Some x → drop i xs ≡ x ∷ drop (i + 1) xs
-drop_at [] i x e = absurd (cc)
-drop_at (y ∷ xs) zero x e =
-    let f : y ≡ x = cc in
-    let n : zero + 1 ≡ suc zero = omega arith in
-    ap (λ y. y ∷ xs) f ∙ ap (λ m. x ∷ drop m (y ∷ xs)) (sym n)
-drop_at (y ∷ xs) (suc i) x e =
-    let n : suc (i + 1) ≡ suc i + 1 = omega arith in
-    drop_at xs i x e ∙ ap (λ m. x ∷ drop m (y ∷ xs)) n
-
 record NoteAt (s : Store) (At : ℕ → Message → Type 0) (ns : List Note) (i : ℕ) (x : Shape) (o : OwnNote) : Type 0 where
   pub note : Note
   pub is : drop i ns ≡ note ∷ drop (i + 1) ns
@@ -174,7 +165,7 @@ module _ (s : Store) (noted : Noted) (k : ℕ) (p : Process) (env : Env) (h : Is
     st = run_notes (drop id ss) (drop id ns)
 
     pub at_node : drop i ss ≡ x ∷ drop id ss
-    at_node = drop_at ss i x g ∙ ap (λ n. x ∷ drop n ss) (sym z)
+    at_node = drop_get ss i x g ∙ ap (λ n. x ∷ drop n ss) (let n : suc i ≡ id = omega (arith, z) in n)
 
     pub at_note : drop i ns ≡ note_here ∷ drop id ns
     at_note = unfold note_here in (here.is ∙ ap (λ n. here.note ∷ drop n ns) (sym z))

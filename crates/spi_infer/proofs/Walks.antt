@@ -1,13 +1,14 @@
 -- One node after another, forward.
-use Rattle.std.proofs.Common.{◌≡◌, ℕ, zero, suc, ◌+◌, ◌-◌, ◌≤◌, ◌⊎◌, inl, inr, ⊎_elim, Bool, true, false, eqb, List, [], ◌∷◌, ◌++◌, Some, length, take, drop, refl, sym, ap, subst, ◌∙◌, arith, append-nil}
+use Rattle.std.proofs.Common.{◌≡◌, ℕ, zero, suc, ◌+◌, ◌-◌, ◌≤◌, ◌⊎◌, ⊎_elim, Bool, true, false, eqb, List, [], ◌∷◌, ◌++◌, Some, length, take, drop, refl, sym, ap, subst, ◌∙◌, arith, append-nil}
 use Rattle.std.specs.Prelude.{slice_get, if◌then◌else◌}
 use Rattle.std.proofs.lemmas.Bool.{eqb-true}
 use Rattle.std.proofs.lemmas.List.{take_all, drop_all}
 use Rattle.spi_term.specs.Term.{Pars, Branches, Process, leaf, prefix, fork, binds, fork_binds, process_size}
 use Rattle.spi_term.specs.Names.{ProcessOver}
 use Rattle.spi_term.specs.Spelling.{Shape, leaf_at, prefix_at, fork_at, flat, numbered, spelled}
-use Rattle.spi_term.specs.Arena.{ScopedProcess, ReadsProcesses, no_node, leaf_on, prefix_on, fork_on, scope_of, scope_at, parts_of, PartsStand}
-use Rattle.spi_term.proofs.Rows.{arena_reads}
+use Rattle.spi_term.specs.Arena.{ReadsProcesses, scope_of, scope_at, parts_of, PartsStand}
+use Rattle.spi_term.proofs.Lists.{get_either, drop_get}
+use Rattle.spi_term.proofs.Rows.{arena_reads, reads_from}
 use Rattle.spi_term.proofs.Numbers.{spelled_arena}
 use Rattle.spi_term.proofs.Places.{of_order}
 use Rattle.spi_rules.specs.Environment.{Env}
@@ -21,14 +22,9 @@ use Rattle.spi_infer.specs.declared.waiting.Pending.{Pending}
 use Rattle.spi_infer.specs.Waiting.{Queued, waiting_none, ReachesUpTo, AreLater}
 use Rattle.spi_infer.specs.Walking.{Walked, IsNodePassed}
 use Rattle.spi_infer.proofs.Kept.{are_noted_keep, noted_push}
-use Rattle.spi_infer.proofs.Scanning.{drop_at_get, scan_more}
+use Rattle.spi_infer.proofs.Scanning.{scan_more}
 
 -- scopes
-get_append : (a b : List Shape) (i : ℕ) (x : Shape) → slice_get (a ++ b) i ≡ Some x → (slice_get a i ≡ Some x) ⊎ ((j : ℕ) × (slice_get b j ≡ Some x))
-get_append [] b i x e = inr (i, e)
-get_append (y ∷ a) b zero x e = inl e
-get_append (y ∷ a) b (suc i) x e = get_append a b i x e
-
 scope_low : (q : Process) (i k n : ℕ) (x : Shape) → slice_get (flat i k q) n ≡ Some x → k ≤ scope_of x
 scope_low (leaf l) i k zero x e = let f : leaf_at k l ≡ x = cc in subst (λ x. k ≤ scope_of x) f (omega arith)
 scope_low (leaf l) i k (suc n) x e = absurd (cc)
@@ -37,7 +33,7 @@ scope_low (prefix s p) i k (suc n) x e = omega (arith, scope_low p (suc i) (k + 
 scope_low (fork f p q) i k zero x e = let g : fork_at k f (suc i) (suc i + process_size p) ≡ x = cc in subst (λ x. k ≤ scope_of x) g (omega arith)
 scope_low (fork f p q) i k (suc n) x e =
     let m = k + fork_binds f in
-    ⊎_elim (λ (h : slice_get (flat (suc i) m p) n ≡ Some x). let g : k ≤ scope_of x = omega (arith, scope_low p (suc i) m n x h) in g) (λ (h : (j : ℕ) × (slice_get (flat (suc i + process_size p) m q) j ≡ Some x)). let g : k ≤ scope_of x = omega (arith, scope_low q (suc i + process_size p) m h.0 x h.1) in g) (get_append (flat (suc i) m p) (flat (suc i + process_size p) m q) n x e)
+    ⊎_elim (λ (h : slice_get (flat (suc i) m p) n ≡ Some x). let g : k ≤ scope_of x = omega (arith, scope_low p (suc i) m n x h) in g) (λ (h : (j : ℕ) × (slice_get (flat (suc i + process_size p) m q) j ≡ Some x)). let g : k ≤ scope_of x = omega (arith, scope_low q (suc i + process_size p) m h.0 x h.1) in g) (get_either (flat (suc i) m p) (flat (suc i + process_size p) m q) n x e)
 
 pub names_low : (k : ℕ) (p : Process) (i : ℕ) (x : Shape) → slice_get (spelled k p) i ≡ Some x → k ≤ scope_of x
 names_low k p i x e = scope_low (numbered [] k p) 0 k i x e
@@ -48,29 +44,13 @@ scope_at_get (y ∷ ss) zero x e = let f : y ≡ x = cc in ap (λ y. Some (scope
 scope_at_get (y ∷ ss) (suc i) x e = scope_at_get ss i x e
 
 -- the parts of a form stand where it says
-reads_drop : (n j : ℕ) (ss : List Shape) (st : List ScopedProcess) → ReadsProcesses j ss st → (st' : List ScopedProcess) × ReadsProcesses (j + n) (drop n ss) st'
-reads_drop zero j ss st r = let e : j ≡ j + 0 = omega arith in (st, subst (λ j. ReadsProcesses j ss st) e r)
-reads_drop (suc n) j [] st r = ([], no_node)
-reads_drop (suc n) j (_ ∷ ss) _ (leaf_on {st = st} h r) =
-    let w = reads_drop n (suc j) ss st r in
-    let e : suc j + n ≡ j + suc n = omega arith in
-    (w.0, subst (λ j. ReadsProcesses j (drop n ss) w.0) e w.1)
-reads_drop (suc n) j (_ ∷ ss) _ (prefix_on h a r) =
-    let w = reads_drop n (suc j) ss _ r in
-    let e : suc j + n ≡ j + suc n = omega arith in
-    (w.0, subst (λ j. ReadsProcesses j (drop n ss) w.0) e w.1)
-reads_drop (suc n) j (_ ∷ ss) _ (fork_on h a b r) =
-    let w = reads_drop n (suc j) ss _ r in
-    let e : suc j + n ≡ j + suc n = omega arith in
-    (w.0, subst (λ j. ReadsProcesses j (drop n ss) w.0) e w.1)
-
 pub parts_at : (k : ℕ) (p : Process) (i : ℕ) (x : Shape) → ProcessOver k p → slice_get (spelled k p) i ≡ Some x → PartsStand (spelled k p) i (scope_of x) (parts_of x)
 parts_at k p i x o e =
     let ss = spelled k p in
     let a = spelled_arena k p ss (o, refl) in
-    let w = reads_drop i 0 ss _ (arena_reads k ss a.0 a.1 a.2) in
+    let w = reads_from i 0 ss _ (arena_reads k ss a.0 a.1 a.2) in
     let z : 0 + i ≡ i = omega arith in
-    (of_order ss (drop (i + 1) ss) i x (drop_at_get ss i x e) (w.0, subst (λ j. ReadsProcesses j (drop i ss) w.0) z w.1)).1
+    (of_order ss (drop (suc i) ss) i x (drop_get ss i x e) (w.0, subst (λ j. ReadsProcesses j (drop i ss) w.0) z w.1)).1
 
 -- types that wait
 later_left : (ss : List Shape) (base i : ℕ) (ws : List Wait) → AreLater ss base ws → AreLater ss base (left_waiting i ws)

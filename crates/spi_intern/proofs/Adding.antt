@@ -1,8 +1,10 @@
 -- What is new after one call, and after another.
 use Rattle.std.proofs.Common.{◌≡◌, ℕ, ◌<◌, Bool, true, false, if◌then◌else◌, List, [], ◌∷◌, ◌++◌, Some, slice_get, length, refl, sym, ap, subst, ◌∙◌, ◌⊎◌, inl, inr, ⊎_elim, Result, Ok, Err, OnOk}
+use Rattle.std.proofs.lemmas.Option.{slice_get_within}
 use Rattle.spi_intern.specs.Messages.{interned}
 use Rattle.std.specs.List.{list_any}
 use Rattle.spi_term.specs.Term.{Message, Atom, Effect, Ty, un, unit_ty, pair_ty, sum_ty, key, nonce}
+use Rattle.spi_term.proofs.Lists.{get_some}
 use Rattle.spi_intern.specs.Table.{KeepsAll, with_value}
 use Rattle.spi_intern.specs.Kinds.{Kind, same_kind}
 use Rattle.spi_intern.specs.Typed.{said_kind}
@@ -11,7 +13,7 @@ use Rattle.spi_intern.specs.declared.store.Store.{Store}
 use Rattle.spi_intern.specs.Meaning.{KindMeans, Means, Keeps}
 use Rattle.spi_intern.specs.Parts.{PartOf, message_of, InEffect, in_first, in_later, InTy, in_pair_first, in_pair_second, in_sum_left, in_sum_right, in_key, in_nonce, TyPartOf, whole_ty, of_pair_first, of_pair_second, of_sum_left, of_sum_right, of_payload}
 use Rattle.spi_intern.specs.Growing.{Has, HasTy, AddsMessages, AddsTypes, Adds, a_message, a_type}
-use Rattle.spi_intern.proofs.Lists.{below_get, get_below, get_push}
+use Rattle.spi_intern.proofs.Lists.{get_push}
 use Rattle.spi_intern.proofs.Grown.{has_kept, interned_adds}
 use Rattle.spi_intern.proofs.Meanings.{NodeMeans, means_keeps, kind_keeps}
 use Rattle.spi_intern.proofs.TyLaws.{says_said}
@@ -54,12 +56,12 @@ types_put {s} {r} i {k} {t} e at m = record { all = all; only = only }
     all u f = record { place = i; means = subst (Means r i) (sym f) (mean i at) }
 
     by : (b : Bool) (j : ℕ) (x : Kind) → slice_get (if b then s.types else s.types ++ k ∷ []) j ≡ Some x → (j < length s.types) ⊎ (x ≡ k)
-    by true j x f = inl (get_below s.types j x f)
-    by false j x f = ⊎_elim (λ g. inl (get_below s.types j x g)) (λ g. inr g.1) (get_push s.types k j x f)
+    by true j x f = inl (slice_get_within s.types j x f)
+    by false j x f = ⊎_elim (λ g. inl (slice_get_within s.types j x g)) (λ g. inr g.1) (get_push s.types k j x f)
 
     only : (j : ℕ) → j < length r.types → (j < length s.types) ⊎ ((u : Ty) × (u ≡ t) × Means r j u)
     only j h =
-        let w = below_get r.types j h in
+        let w = get_some r.types j h in
         ⊎_elim inl (λ f. inr (t, refl, mean j (w.1 ∙ ap Some f))) (by (list_any (same_kind k) s.types) j w.0 (ap (λ zs. slice_get zs j) (sym e) ∙ w.1))
 
 -- a type whose node is put

@@ -1,29 +1,21 @@
 -- Numbers of atoms count as the atoms do, so lists in order that mean effects with equal counts are equal.
-use Rattle.std.proofs.Common.{◌≡◌, ℕ, zero, suc, ◌+◌, ◌≤◌, Bool, true, false, if◌then◌else◌, List, [], ◌∷◌, Some, refl, sym, ap, subst, ◌∙◌, true≢false, arith, ◌⊎◌, inl, inr, ⊎_elim, slice_get, Result, Ok, Err, IfOk}
-use Rattle.spi_term.specs.Term.{Message, Atom, ends, checks, many, Effect, same_atom, atom_discrete}
+use Rattle.std.proofs.Common.{◌≡◌, ℕ, zero, suc, ◌+◌, ◌≤◌, Bool, true, if◌then◌else◌, List, [], ◌∷◌, Some, refl, sym, ap, subst, ◌∙◌, arith, ◌⊎◌, inl, inr, ⊎_elim, slice_get, Result, Ok, Err, IfOk}
+use Rattle.spi_term.specs.Term.{Message, Atom, ends, checks, many, Effect, same_atom}
 use Rattle.spi_term.specs.Counts.{tally, cut, SameEffect}
+use Rattle.spi_term.proofs.Lists.{some_is}
+use Rattle.spi_term.proofs.Choices.{truths}
+use Rattle.spi_term.proofs.Counting.{same_atom_true, same_atom_refl, cut_twice}
 use Rattle.spi_intern.specs.Table.{AllDiffer, TellsAll, tells_none, tells_next}
-use Rattle.spi_intern.specs.declared.messages.MsgId.{MsgId}
 use Rattle.spi_intern.specs.declared.atoms.AtomId.{AtomId}
 use Rattle.spi_intern.specs.declared.atoms.AtomId.TheVariants.{End, Check, Many}
 use Rattle.spi_intern.specs.Atoms.{SaysAtom, says_end, says_check, says_many, same_id_atom, times, InOrder, cut_times, IsCutTo, IdsMean}
-use Rattle.spi_intern.proofs.Lists.{some_one, truths}
-use Rattle.spi_intern.proofs.EffectLaws.{atom_same, same_of}
-use Rattle.spi_intern.proofs.Sorting.{order_one}
-
-atom_true : (m n : Atom) → same_atom m n ≡ true → m ≡ n
-atom_true m n = elim (atom_discrete m n) as (λ d. (elim d as (λ _. Bool) [ yes e ↦ true | no f ↦ false ]) ≡ true → m ≡ n) [ yes e ↦ (λ _. e) | no f ↦ (λ h. absurd (true≢false (sym h))) ]
-
-atom_self : (m : Atom) → same_atom m m ≡ true
-atom_self m = elim (atom_discrete m m) as (λ d. (elim d as (λ _. Bool) [ yes e ↦ true | no f ↦ false ]) ≡ true) [ yes e ↦ refl | no f ↦ absurd (f refl) ]
+use Rattle.spi_intern.proofs.EffectLaws.{atom_same, same_of, id_of}
+use Rattle.spi_intern.proofs.Sorting.{order_one, two_ways, cut_some}
 
 pub atom_like : {ms : List Message} {i : AtomId} {a b : Atom} → SaysAtom ms i a → SaysAtom ms i b → a ≡ b
-atom_like (says_end e) (says_end f) = ap ends (some_one (sym e ∙ f))
-atom_like (says_check e) (says_check f) = ap checks (some_one (sym e ∙ f))
-atom_like (says_many e) (says_many f) = ap many (some_one (sym e ∙ f))
-
-id_of : (a b : MsgId) → a.place ≡ b.place → a ≡ b
-id_of a b e = λ i. record { place = e i }
+atom_like (says_end e) (says_end f) = ap ends (some_is (sym e ∙ f))
+atom_like (says_check e) (says_check f) = ap checks (some_is (sym e ∙ f))
+atom_like (says_many e) (says_many f) = ap many (some_is (sym e ∙ f))
 
 atom_one : {ms : List Message} {i j : AtomId} {a : Atom} → AllDiffer ms → SaysAtom ms i a → SaysAtom ms j a → i ≡ j
 atom_one d (says_end {a = x} e) (says_end {a = y} f) = ap End (id_of x y (d.one _ _ _ e f))
@@ -41,18 +33,14 @@ tests_agree : {ms : List Message} → AllDiffer ms → (i j : AtomId) (a b : Ato
 tests_agree {ms} d i j a b s t = truths (same_id_atom i j) (same_atom a b) there back
   where
     there : same_id_atom i j ≡ true → same_atom a b ≡ true
-    there h = let e : a ≡ b = atom_like (subst (λ k. SaysAtom ms k a) (atom_same i j h) s) t in ap (same_atom a) (sym e) ∙ atom_self a
+    there h = let e : a ≡ b = atom_like (subst (λ k. SaysAtom ms k a) (atom_same i j h) s) t in ap (same_atom a) (sym e) ∙ same_atom_refl a
 
     back : same_atom a b ≡ true → same_id_atom i j ≡ true
-    back h = let e : i ≡ j = atom_one d s (subst (SaysAtom ms j) (sym (atom_true a b h)) t) in ap (same_id_atom i) (sym e) ∙ same_of i
+    back h = let e : i ≡ j = atom_one d s (subst (SaysAtom ms j) (sym (same_atom_true a b h)) t) in ap (same_id_atom i) (sym e) ∙ same_of i
 
 tally_told : {ms : List Message} {ids : List AtomId} {es : List Atom} → AllDiffer ms → TellsAll (SaysAtom ms) ids es → (i : AtomId) (a : Atom) → SaysAtom ms i a → times i ids ≡ tally a es
 tally_told d tells_none i a s = refl
 tally_told d (tells_next {p = p} {m = m} t q) i a s = λ k. bit (tests_agree d i p a m s t k) + tally_told d q i a s k
-
-two_ways : (b : Bool) (n : ℕ) → 1 ≤ bit b + n → (b ≡ true) ⊎ (1 ≤ n)
-two_ways true n h = inl refl
-two_ways false n h = inr (omega arith)
 
 -- a number that stands in the list means an atom
 told_in : {ms : List Message} {ids : List AtomId} {es : List Atom} → TellsAll (SaysAtom ms) ids es → (i : AtomId) → 1 ≤ times i ids → (a : Atom) × SaysAtom ms i a
@@ -64,7 +52,7 @@ told_in {ms} (tells_next {p = p} {m = m} {ps = ps} t q) i h =
 told_of : {ms : List Message} {ids : List AtomId} {es : List Atom} → TellsAll (SaysAtom ms) ids es → (a : Atom) → 1 ≤ tally a es → (i : AtomId) × SaysAtom ms i a
 told_of tells_none a h = absurd (omega arith)
 told_of {ms} (tells_next {p = p} {m = m} {ms = es} t q) a h =
-    ⊎_elim (λ e. (p, subst (SaysAtom ms p) (sym (atom_true a m e)) t)) (λ g. told_of q a g) (two_ways (same_atom a m) (tally a es) h)
+    ⊎_elim (λ e. (p, subst (SaysAtom ms p) (sym (same_atom_true a m e)) t)) (λ g. told_of q a g) (two_ways (same_atom a m) (tally a es) h)
 
 some_or_none : (n : ℕ) → (1 ≤ n) ⊎ (n ≡ 0)
 some_or_none zero = inr refl
@@ -101,11 +89,6 @@ says_cut n (says_end e) = refl
 says_cut n (says_check e) = refl
 says_cut n (says_many e) = refl
 
-cut_twice : (a : Atom) (n : ℕ) → cut a (cut a n) ≡ cut a n
-cut_twice (ends m) n = refl
-cut_twice (checks m) n = refl
-cut_twice (many m) n = omega arith
-
 cut_small : (m : Message) (n : ℕ) → cut (many m) n ≤ 1
 cut_small m n = omega arith
 
@@ -121,11 +104,6 @@ told_all (j ∷ js) f =
 
     more : (m n : ℕ) → 1 ≤ n → 1 ≤ m + n
     more m n h = omega arith
-
-cut_some : (a : AtomId) (n : ℕ) → 1 ≤ cut_times a n → 1 ≤ n
-cut_some (End a) n h = h
-cut_some (Check a) n h = h
-cut_some (Many a) n h = omega arith
 
 -- the list in order, with each `many` once, has the effect's counts
 pub cut_means : {ms : List Message} {ids js : List AtomId} {es : Effect} → AllDiffer ms → TellsAll (SaysAtom ms) ids es → IsCutTo ids js → InOrder js → IdsMean ms js es

@@ -2,13 +2,14 @@
 use Rattle.std.proofs.Common.{◌≡◌, Bool, true, List, [], ◌∷◌, refl, sym, ap, ◌∙◌, true≢false}
 use lib.Pointwise.{pointwise}
 use Rattle.std.proofs.lemmas.Bool.{eqb-true, eq-eqb}
+use Rattle.spi_term.proofs.Counting.{and_true}
 use Rattle.spi_intern.specs.Table.{IsTable, tells_none}
 use Rattle.spi_intern.specs.Atoms.{same_id_atom, same_atoms, AtomVec, SaysList, said_list}
 use Rattle.spi_intern.specs.declared.messages.MsgId.{MsgId}
 use Rattle.spi_intern.specs.declared.atoms.AtomId.{AtomId}
 use Rattle.spi_intern.specs.declared.atoms.AtomId.TheVariants.{End, Check, Many}
 use Rattle.spi_intern.specs.contracts.atoms.AtomIdPartialEq.TheImpl.{eq-value}
-use Rattle.spi_intern.proofs.MessageLaws.{both, both_are}
+use Rattle.spi_intern.proofs.MessageLaws.{both_are}
 use Rattle.spi_intern.proofs.Tables.{Laws}
 
 abbrev pub atom_eq : AtomId → AtomId → Bool
@@ -17,7 +18,7 @@ atom_eq = eq-value.it
 abbrev pub vec_eq : AtomVec → AtomVec → Bool
 vec_eq v w = pointwise atom_eq v.items w.items
 
-id_of : (a b : MsgId) → a.place ≡ b.place → a ≡ b
+pub id_of : (a b : MsgId) → a.place ≡ b.place → a ≡ b
 id_of a b e = λ i. record { place = e i }
 
 atom_true : (a b : AtomId) → atom_eq a b ≡ true → a ≡ b
@@ -46,7 +47,7 @@ list_true : (xs ys : List AtomId) → same_atoms xs ys ≡ true → xs ≡ ys
 list_true [] [] h = refl
 list_true [] (y ∷ ys) h = absurd (true≢false (sym h))
 list_true (x ∷ xs) [] h = absurd (true≢false (sym h))
-list_true (x ∷ xs) (y ∷ ys) h = let e = both (same_id_atom x y) (same_atoms xs ys) h in λ i. atom_same x y e.0 i ∷ list_true xs ys e.1 i
+list_true (x ∷ xs) (y ∷ ys) h = let e = and_true (same_id_atom x y) (same_atoms xs ys) h in λ i. atom_same x y e.0 i ∷ list_true xs ys e.1 i
 
 list_self : (xs : List AtomId) → same_atoms xs xs ≡ true
 list_self [] = refl
@@ -56,7 +57,7 @@ items_true : (xs ys : List AtomId) → pointwise atom_eq xs ys ≡ true → xs �
 items_true [] [] h = refl
 items_true [] (y ∷ ys) h = absurd (true≢false (sym h))
 items_true (x ∷ xs) [] h = absurd (true≢false (sym h))
-items_true (x ∷ xs) (y ∷ ys) h = let e = both (atom_eq x y) (pointwise atom_eq xs ys) h in λ i. atom_true x y e.0 i ∷ items_true xs ys e.1 i
+items_true (x ∷ xs) (y ∷ ys) h = let e = and_true (atom_eq x y) (pointwise atom_eq xs ys) h in λ i. atom_true x y e.0 i ∷ items_true xs ys e.1 i
 
 items_self : (xs : List AtomId) → pointwise atom_eq xs xs ≡ true
 items_self [] = refl

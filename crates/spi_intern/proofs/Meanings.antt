@@ -3,6 +3,7 @@ use Rattle.std.proofs.Common.{◌≡◌, ℕ, ◌+◌, ◌<◌, List, [], ◌∷
 use Rattle.std.proofs.lemmas.List.{take_more}
 use Rattle.spi_term.specs.Term as Term
 use Rattle.spi_term.specs.Term.{Message, Atom, Ty, unit_ty, pair_ty, sum_ty}
+use Rattle.spi_term.proofs.Lists.{map_more as map_end}
 use Rattle.spi_intern.specs.Table.{KeepsAll, TellsAll, tells_none}
 use Rattle.spi_intern.specs.Kinds as Kinds
 use Rattle.spi_intern.specs.Kinds.{Kind}
@@ -73,16 +74,12 @@ node_says h = says_it h.says
 pub made : {s r : Store} {i : ℕ} {n : TyNode} {t : Ty} → Keeps s r → NodeMeans s n t → slice_get r.types i ≡ Some (said_kind s.types n) → Means r i t
 made {s} {n = n} f h at = record { kind = h.kind; at = at ∙ ap Some (says_said s.types n h.kind h.says); means = kind_keeps f.messages f.effects h.means }
 
-map_push : {A B : Type 0} (f : A → B) (xs : List A) (x : A) → map f (xs ++ x ∷ []) ≡ map f xs ++ f x ∷ []
-map_push f [] x = refl
-map_push f (y ∷ xs) x = ap (λ ys. f y ∷ ys) (map_push f xs x)
-
 -- one more element of a list
 pub map_more : {A B : Type 0} (f : A → B) (xs ys : List A) (n : ℕ) (x : A) → ys ≡ xs → n < length ys → x ≡ get_or ys n x → map f (take n xs) ++ f x ∷ [] ≡ map f (take (n + 1) xs)
 map_more f xs ys n x v h e =
     let h' = subst (λ zs. n < length zs) v h in
     let e' = subst (λ zs. x ≡ get_or zs n x) v e in
-    sym (ap (map f) (take_more xs n x h' ∙ ap (λ y. take n xs ++ y ∷ []) (sym e')) ∙ map_push f (take n xs) x)
+    sym (ap (map f) (take_more xs n x h' ∙ ap (λ y. take n xs ++ y ∷ []) (sym e')) ∙ map_end f (take n xs) x)
 
 pub ids_next : {ms ns : List Message} {ids js : List AtomId} {i : AtomId} {es : List Atom} {a : Atom} → KeepsAll ms ns → TellsAll (SaysAtom ms) ids es → SaysAtom ns i a → js ≡ ids ++ i ∷ [] → TellsAll (SaysAtom ns) js (es ++ a ∷ [])
 ids_next {ns = ns} {es = es} {a = a} k h s g = subst (λ zs. TellsAll (SaysAtom ns) zs (es ++ a ∷ [])) (sym g) (tells_push (tells_map (atom_keeps k) h) s)

@@ -11,17 +11,13 @@ use Rattle.spi_intern.specs.contracts.messages.MsgPartPartialEq.TheImpl.{eq-valu
 use Rattle.spi_intern.specs.contracts.messages.MsgIdPartialEq.TheImpl.{eq-value as eq_of_ids}
 use Rattle.spi_intern.proofs.Tables.{Laws}
 use Rattle.spi_term.specs.Substitution.{or_unit}
+use Rattle.spi_term.proofs.Counting.{and_true}
 
 abbrev pub id_eq : MsgId → MsgId → Bool
 id_eq = eq_of_ids.it
 
 abbrev pub part_eq : MsgPart → MsgPart → Bool
 part_eq = eq-value.it
-
-pub both : (a b : Bool) → (a && b) ≡ true → (a ≡ true) × (b ≡ true)
-both true true h = (refl, refl)
-both true false h = absurd (true≢false (sym h))
-both false b h = absurd (true≢false (sym h))
 
 id_true : (a b : MsgId) → id_eq a b ≡ true → a ≡ b
 id_true a b h = let e : a.place ≡ b.place = eqb-true a.place b.place h in λ i. record { place = e i }
@@ -30,10 +26,10 @@ pub part_true : (p q : MsgPart) → part_eq p q ≡ true → p ≡ q
 part_true (Bound i) (Bound j) h = ap Bound (eqb-true i j h)
 part_true (Name i) (Name j) h = ap Name (eqb-true i j h)
 part_true NoParts NoParts h = refl
-part_true (Pair a b) (Pair c d) h = let e = both (id_eq a c) (id_eq b d) h in λ i. Pair (id_true a c e.0 i) (id_true b d e.1 i)
+part_true (Pair a b) (Pair c d) h = let e = and_true (id_eq a c) (id_eq b d) h in λ i. Pair (id_true a c e.0 i) (id_true b d e.1 i)
 part_true (Inl a) (Inl b) h = ap Inl (id_true a b h)
 part_true (Inr a) (Inr b) h = ap Inr (id_true a b h)
-part_true (Enc a b) (Enc c d) h = let e = both (id_eq a c) (id_eq b d) h in λ i. Enc (id_true a c e.0 i) (id_true b d e.1 i)
+part_true (Enc a b) (Enc c d) h = let e = and_true (id_eq a c) (id_eq b d) h in λ i. Enc (id_true a c e.0 i) (id_true b d e.1 i)
 part_true (Hash a) (Hash b) h = ap Hash (id_true a b h)
 part_true p q h = absurd (true≢false (sym h))
 

@@ -1,18 +1,19 @@
 -- Messages by their numbers, and those of their parts.
 use Rattle.std.proofs.Common.{◌≡◌, ℕ, ◌+◌, ◌<◌, List, Some, slice_get, length, refl, sym, ap, ◌∙◌}
+use Rattle.std.proofs.lemmas.Option.{slice_get_within}
 use Rattle.spi_term.specs.Term.{Message, bound, name, unit, pair, in_left, in_right, enc, hash, message_size}
 use Rattle.spi_intern.specs.Messages.{Says, says_bound, says_name, says_unit, says_pair, says_left, says_right, says_enc, says_hash, message_at}
 use Rattle.spi_intern.specs.declared.messages.MsgId.{MsgId}
 use Rattle.spi_intern.specs.declared.messages.MsgPart.{MsgPart}
 use Rattle.spi_intern.specs.declared.messages.MsgPart.TheVariants.{Bound, Name, Unit as NoParts, Pair, Inl, Inr, Enc, Hash}
-use Rattle.spi_intern.proofs.Lists.{below_get, get_below}
 use Rattle.spi_term.specs.Substitution.{or_unit}
+use Rattle.spi_term.proofs.Lists.{get_some}
 
 pub at_message : (ms : List Message) (id : MsgId) {m : Message} → slice_get ms id.place ≡ Some m → message_at ms id ≡ m
 at_message ms id e = ap or_unit e
 
 pub message_there : (ms : List Message) (id : MsgId) → id.place < length ms → slice_get ms id.place ≡ Some (message_at ms id)
-message_there ms id h = let w = below_get ms id.place h in w.1 ∙ ap (λ o. Some (or_unit o)) (sym w.1)
+message_there ms id h = let w = get_some ms id.place h in w.1 ∙ ap (λ o. Some (or_unit o)) (sym w.1)
 
 pub record TwoOf (ms : List Message) (m a b : MsgId) (f : Message → Message → Message) : Type 0 where
   pub first : a.place < length ms
@@ -74,13 +75,13 @@ module _ (ms : List Message) (m : MsgId) where
   two_parts_of {f} {a = a} {b = b} j t h =
       let w = j.parts ms a b (message_at ms m) (t (message_at ms m) (message_there ms m h)) in
       let e : f (message_at ms a) (message_at ms b) ≡ message_at ms m = (λ i. f (at_message ms a w.3 i) (at_message ms b w.4 i)) ∙ w.2 in
-      record { first = get_below ms a.place w.0 w.3; second = get_below ms b.place w.1 w.4; is = e; size = sym (ap message_size e) ∙ j.size (message_at ms a) (message_at ms b) }
+      record { first = slice_get_within ms a.place w.0 w.3; second = slice_get_within ms b.place w.1 w.4; is = e; size = sym (ap message_size e) ∙ j.size (message_at ms a) (message_at ms b) }
 
   pub one_part_of : {f : Message → Message} {part : MsgId → MsgPart} {a : MsgId} → SaysOne f part → Tells ms m (part a) → m.place < length ms → OneOf ms m a f
   one_part_of {f} {a = a} j t h =
       let w = j.inner ms a (message_at ms m) (t (message_at ms m) (message_there ms m h)) in
       let e : f (message_at ms a) ≡ message_at ms m = ap f (at_message ms a w.2) ∙ w.1 in
-      record { part = get_below ms a.place w.0 w.2; is = e; size = sym (ap message_size e) ∙ j.size (message_at ms a) }
+      record { part = slice_get_within ms a.place w.0 w.2; is = e; size = sym (ap message_size e) ∙ j.size (message_at ms a) }
 
   bound_says : {i : ℕ} (n : Message) → message_at ms m ≡ n → Says ms (Bound i) n → bound i ≡ message_at ms m
   bound_says _ e says_bound = sym e

@@ -1,20 +1,18 @@
 -- Lists in the store's order: sorting makes one, and two with equal counts are equal.
-use Rattle.std.proofs.Common.{◌≡◌, ℕ, zero, suc, ◌+◌, ◌<◌, ◌≤◌, Bool, true, false, ◌&&◌, if◌then◌else◌, List, [], ◌∷◌, ◌++◌, length, drop, get_or, slice_index_or, refl, sym, ap, subst, ◌∙◌, true≢false, arith, ◌⊎◌, inl, inr, ⊎_elim, sum_by, Result, Ok, Err, IfOk}
+use Rattle.std.proofs.Common.{◌≡◌, ℕ, zero, suc, ◌+◌, ◌<◌, ◌≤◌, Bool, true, false, if◌then◌else◌, List, [], ◌∷◌, ◌++◌, length, drop, get_or, slice_index_or, refl, sym, ap, subst, ◌∙◌, true≢false, arith, ◌⊎◌, inl, inr, ⊎_elim, sum_by, Result, Ok, Err, IfOk}
 use Rattle.std.specs.List.Sorted.{IsSorted, IsPermutation}
 use Rattle.std.specs.Ordering.{is_lt}
 use Rattle.std.proofs.lemmas.List.Sorted.{sum_by-IsPermutation}
 use Rattle.std.proofs.lemmas.List.{append_assoc}
 use Rattle.std.proofs.lemmas.List.Sums.{sum_by-cons}
 use Rattle.std.proofs.lemmas.Map.Keys.{ge_from_not_lt}
-use Rattle.spi_intern.specs.declared.messages.MsgId.{MsgId}
+use Rattle.spi_term.proofs.Counting.{and_true}
+use Rattle.spi_term.proofs.Choices.{one_false}
 use Rattle.spi_intern.specs.declared.atoms.AtomId.{AtomId}
 use Rattle.spi_intern.specs.declared.atoms.AtomId.TheVariants.{End, Check, Many}
 use Rattle.spi_intern.specs.contracts.atoms.AtomIdOrd.TheImpl.{cmp-value}
 use Rattle.spi_intern.specs.Atoms.{same_id_atom, times, group, atom_place, IsNotAfter, by_group, by_place, InOrder, order_none, order_next, cut_times, IsCutTo, is_many, repeats, without_repeats, AtomVec}
-use Rattle.spi_intern.proofs.EffectLaws.{atom_same, same_of}
-
-id_of : (a b : MsgId) → a.place ≡ b.place → a ≡ b
-id_of a b e = λ i. record { place = e i }
+use Rattle.spi_intern.proofs.EffectLaws.{atom_same, same_of, id_of}
 
 alike : (a b : AtomId) → group a ≡ group b → atom_place a ≡ atom_place b → a ≡ b
 alike (End a) (End b) g e = ap End (id_of a b e)
@@ -57,7 +55,7 @@ not_less (Many a) (Many b) h = by_place refl (ge_from_not_lt b.place a.place h)
 abbrev bit : Bool → ℕ
 bit b = if b then 1 else 0
 
-two_ways : (b : Bool) (n : ℕ) → 1 ≤ bit b + n → (b ≡ true) ⊎ (1 ≤ n)
+pub two_ways : (b : Bool) (n : ℕ) → 1 ≤ bit b + n → (b ≡ true) ⊎ (1 ≤ n)
 two_ways true n h = inl refl
 two_ways false n h = inr (omega arith)
 
@@ -106,7 +104,7 @@ order_one (x ∷ xs) (y ∷ ys) (order_next f s) (order_next g t) h =
     λ i. e i ∷ rest i
 
 -- a count that is cut is 0 just where the count is
-cut_some : (a : AtomId) (n : ℕ) → 1 ≤ cut_times a n → 1 ≤ n
+pub cut_some : (a : AtomId) (n : ℕ) → 1 ≤ cut_times a n → 1 ≤ n
 cut_some (End a) n h = h
 cut_some (Check a) n h = h
 cut_some (Many a) n h = omega arith
@@ -133,21 +131,11 @@ cut_again (End a) n h k = absurd (true≢false (sym h))
 cut_again (Check a) n h k = absurd (true≢false (sym h))
 cut_again (Many a) n h k = omega arith
 
-both : (a b : Bool) → (a && b) ≡ true → (a ≡ true) × (b ≡ true)
-both true true h = (refl, refl)
-both true false h = absurd (true≢false (sym h))
-both false b h = absurd (true≢false (sym h))
-
-either : (a b : Bool) → (a && b) ≡ false → (a ≡ false) ⊎ (b ≡ false)
-either true true h = absurd (true≢false h)
-either true false h = inr refl
-either false b h = inl refl
-
 -- the first stands next again
 next_again : (x : AtomId) (xs : List AtomId) → repeats (x ∷ xs) ≡ true → (is_many x ≡ true) × (1 ≤ times x xs)
 next_again x [] h = absurd (true≢false (sym h))
 next_again x (y ∷ xs) h =
-    let w = both (is_many x) (same_id_atom x y) h in
+    let w = and_true (is_many x) (same_id_atom x y) h in
     let P : Bool → Type 0 = λ b. 1 ≤ bit b + times x xs in
     let one : P true = omega arith in
     (w.0, subst P (sym w.1) one)
@@ -155,7 +143,7 @@ next_again x (y ∷ xs) h =
 -- the first stands nowhere later, or is no `many`
 once_here : (x : AtomId) (xs : List AtomId) → InOrder (x ∷ xs) → repeats (x ∷ xs) ≡ false → (is_many x ≡ false) ⊎ (times x xs ≡ 0)
 once_here x [] o h = inr refl
-once_here x (y ∷ xs) (order_next f (order_next g o)) h = ⊎_elim inl (λ d. inr (none d)) (either (is_many x) (same_id_atom x y) h)
+once_here x (y ∷ xs) (order_next f (order_next g o)) h = ⊎_elim inl (λ d. inr (none d)) (one_false (is_many x) (same_id_atom x y) h)
   where
     none_or_some : (n : ℕ) → (n ≡ 0) ⊎ (1 ≤ n)
     none_or_some zero = inl refl

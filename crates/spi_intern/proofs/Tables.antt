@@ -2,9 +2,11 @@
 use Rattle.std.proofs.Common.{◌≡◌, ℕ, zero, suc, Bool, true, false, List, [], ◌∷◌, ◌++◌, Option, Some, None, slice_get, length, if◌then◌else◌, refl, sym, ap, subst, ◌∙◌, true≢false, ⊎_elim}
 use Rattle.std.specs.List.{list_any}
 use Rattle.std.proofs.lemmas.List.Sums.{fold-append}
+use Rattle.spi_term.proofs.Lists.{some_is, get_append}
+use Rattle.spi_term.proofs.Choices.{truths}
 use Rattle.indexmap.specs.IndexSet.{insert_key}
 use Rattle.spi_intern.specs.Table.{KeepsAll, AllDiffer, TellsAll, tells_none, tells_next, with_value, next_told, told_each, IsTable}
-use Rattle.spi_intern.proofs.Lists.{some_one, get_append, any_at, any_from, truths, get_push}
+use Rattle.spi_intern.proofs.Lists.{any_at, any_from, get_push}
 
 pub keeps_same : {M : Type 0} {ms ns : List M} → ms ≡ ns → KeepsAll ms ns
 keeps_same e = record { at = λ i m at. ap (λ xs. slice_get xs i) (sym e) ∙ at }
@@ -33,13 +35,13 @@ tells_map f (tells_next {p = p} {m = m} s t) = tells_next (f p m s) (tells_map f
 -- the value at the place of a node
 pub tells_at : {P M : Type 0} {S : P → M → Type 0} {ps : List P} {ns : List M} → TellsAll S ps ns → (i : ℕ) (p : P) → slice_get ps i ≡ Some p → (m : M) × (slice_get ns i ≡ Some m) × S p m
 tells_at tells_none i p e = absurd cc
-tells_at {S = S} (tells_next {p = q} {m = m} s t) zero p e = (m, refl, subst (λ r. S r m) (some_one e) s)
+tells_at {S = S} (tells_next {p = q} {m = m} s t) zero p e = (m, refl, subst (λ r. S r m) (some_is e) s)
 tells_at (tells_next s t) (suc i) p e = tells_at t i p e
 
 -- and the node at the place of a value
 pub tells_back : {P M : Type 0} {S : P → M → Type 0} {ps : List P} {ns : List M} → TellsAll S ps ns → (i : ℕ) (m : M) → slice_get ns i ≡ Some m → (p : P) × (slice_get ps i ≡ Some p) × S p m
 tells_back tells_none i m e = absurd cc
-tells_back {S = S} (tells_next {p = p} {m = n} s t) zero m e = (p, refl, subst (λ r. S p r) (some_one e) s)
+tells_back {S = S} (tells_next {p = p} {m = n} s t) zero m e = (p, refl, subst (λ r. S p r) (some_is e) s)
 tells_back (tells_next s t) (suc i) m e = tells_back t i m e
 
 pub tells_length : {P M : Type 0} {S : P → M → Type 0} {ps : List P} {ns : List M} → TellsAll S ps ns → length ps ≡ length ns
@@ -149,7 +151,7 @@ module _ {P M : Type 0} (Says : List M → P → M → Type 0) (said : List M �
   pub says_some : (ps : List P) (ms : List M) → told_each said ps ≡ ms → IsTable Says ps (told_each said ps) → (i : ℕ) (q : P) (n : M) → Some q ≡ slice_get ps i → slice_get ms i ≡ Some n → Says ms q n
   says_some ps ms v h i q n e at =
       let w = says_there ps ms v h i (Some q) n e at in
-      let f : w.0 ≡ q = some_one (sym w.1) in
+      let f : w.0 ≡ q = some_is (sym w.1) in
       subst (λ p. Says ms p n) f w.2
 
   pub says_none : (ps : List P) (ms : List M) → told_each said ps ≡ ms → IsTable Says ps (told_each said ps) → (i : ℕ) (n : M) → None ≡ slice_get ps i → slice_get ms i ≡ Some n → ⊥

@@ -1,6 +1,7 @@
 -- What `Types` has to know of its nodes.
 use Rattle.std.proofs.Common.{◌≡◌, Bool, true, false, List, [], refl, sym, ap, subst, ◌∙◌, true≢false}
 use Rattle.std.proofs.lemmas.Bool.{eqb-true, eq-eqb}
+use Rattle.spi_term.proofs.Counting.{and_true}
 use Rattle.spi_intern.specs.Table.{KeepsAll, AllDiffer, IsTable, tells_none}
 use Rattle.spi_intern.specs.Kinds.{Kind, pair, sum, key, same_kind, kind_discrete}
 use Rattle.spi_intern.specs.Typed.{SaysKind, says_un, says_unit, says_pair, says_sum, says_key, says_nonce, said_kind, or_un}
@@ -9,7 +10,7 @@ use Rattle.spi_intern.specs.declared.types.TyNode.{TyNode}
 use Rattle.spi_intern.specs.declared.types.TyNode.TheVariants.{Un, Unit as NoParts, Pair, Sum, Key, Nonce}
 use Rattle.spi_intern.specs.contracts.types.TyIdPartialEq.TheImpl.{eq-value as eq_of_ids}
 use Rattle.spi_intern.specs.contracts.types.TyNodePartialEq.TheImpl.{eq-value as eq_of_nodes}
-use Rattle.spi_intern.proofs.MessageLaws.{both, both_are}
+use Rattle.spi_intern.proofs.MessageLaws.{both_are}
 use Rattle.spi_intern.proofs.Tables.{Laws}
 
 abbrev pub ty_id_eq : TyId → TyId → Bool
@@ -30,8 +31,8 @@ same_id e = λ i. record { place = e i }
 node_true : (p q : TyNode) → node_eq p q ≡ true → p ≡ q
 node_true Un Un h = refl
 node_true NoParts NoParts h = refl
-node_true (Pair a b) (Pair c d) h = let e = both (ty_id_eq a c) (ty_id_eq b d) h in λ i. Pair (id_true a c e.0 i) (id_true b d e.1 i)
-node_true (Sum a b) (Sum c d) h = let e = both (ty_id_eq a c) (ty_id_eq b d) h in λ i. Sum (id_true a c e.0 i) (id_true b d e.1 i)
+node_true (Pair a b) (Pair c d) h = let e = and_true (ty_id_eq a c) (ty_id_eq b d) h in λ i. Pair (id_true a c e.0 i) (id_true b d e.1 i)
+node_true (Sum a b) (Sum c d) h = let e = and_true (ty_id_eq a c) (ty_id_eq b d) h in λ i. Sum (id_true a c e.0 i) (id_true b d e.1 i)
 node_true (Key a) (Key b) h = ap Key (id_true a b h)
 node_true (Nonce a) (Nonce b) h = ap Nonce (eqb-true a b h)
 node_true p q h = absurd (true≢false (sym h))

@@ -1,13 +1,15 @@
 -- The clauses at the messages of a store.
 use Rattle.std.proofs.Common.{◌≡◌, refl, sym, subst, ◌∙◌, ℕ, zero, suc, ◌+◌, ◌<◌, List, [], ◌∷◌, ◌++◌, length, below_more, arith}
+use Rattle.std.proofs.lemmas.Option.{slice_get_within}
 use Rattle.spi_term.specs.Term as Term
 use Rattle.spi_term.specs.Term.{Message, bound, name, pair, in_left, in_right, enc, hash}
+use Rattle.spi_term.proofs.Lists.{some_is}
 use Rattle.spi_horn.specs.declared.rules.Rule.{Rule}
 use Rattle.spi_horn.specs.Leading.{SpeaksBelow}
 use Rattle.spi_intern.specs.Table.{TellsAll, tells_none, tells_next}
 use Rattle.spi_intern.specs.Messages.{Says, says_bound, says_name, says_unit, says_pair, says_left, says_right, says_enc, says_hash}
 use Rattle.spi_intern.specs.declared.messages.MsgPart.{MsgPart}
-use Rattle.spi_intern.proofs.Lists.{some_one, get_append, get_below}
+use Rattle.spi_term.proofs.Lists.{get_append}
 use Rattle.spi_intern.proofs.Tables.{tells_at}
 use Rattle.spi_know.specs.declared.clauses.Way.{Way}
 use Rattle.spi_know.specs.declared.clauses.Way.TheVariants.{MakePair, First, Second, MakeInl, MakeInr, TakeInl, TakeInr, MakeEnc, Open, MakeHash}
@@ -82,17 +84,17 @@ clauses_step ms n rules rules' ways ways' p m at s e f c =
     let here : HasClauses ms rules' n m = subst R (sym e) (clauses_here ms rules n p m s) in
     let all : (j : ℕ) → j < n + 1 → H j = below_more H n
     (λ j lt v h. subst (λ x. HasClauses ms x j v) (sym e) (clauses_more ms rules (rules_of_part n p) j v (c.all j v lt h)))
-    (λ v h. let q : m ≡ v = some_one (sym at ∙ h) in subst (λ x. HasClauses ms rules' n x) q here) in
+    (λ v h. let q : m ≡ v = some_is (sym at ∙ h) in subst (λ x. HasClauses ms rules' n x) q here) in
     record {
       suit = subst P (sym e) (subst Q (sym f) (tells_append c.suit (suits_of ms n p m at s)));
       all = λ j v lt h. all j lt v h;
     }
 
 two_within : (ms : List Message) (r : Rule) (a b c : Message) → HasNumber ms r.first a × HasNumber ms r.second b × HasNumber ms r.gives c → (r.first < length ms) × (r.second < length ms) × (r.gives < length ms)
-two_within ms r a b c (e, f, g) = (get_below ms r.first a e, get_below ms r.second b f, get_below ms r.gives c g)
+two_within ms r a b c (e, f, g) = (slice_get_within ms r.first a e, slice_get_within ms r.second b f, slice_get_within ms r.gives c g)
 
 one_within : (ms : List Message) (r : Rule) (a b : Message) → HasNumber ms r.first a × HasNumber ms r.gives b × (r.second ≡ r.first) → (r.first < length ms) × (r.second < length ms) × (r.gives < length ms)
-one_within ms r a b (e, f, g) = let h = get_below ms r.first a e in (h, omega (arith, h, g), get_below ms r.gives b f)
+one_within ms r a b (e, f, g) = let h = slice_get_within ms r.first a e in (h, omega (arith, h, g), slice_get_within ms r.gives b f)
 
 suits_within : (ms : List Message) (r : Rule) (w : Way) → Suits ms r w → (r.first < length ms) × (r.second < length ms) × (r.gives < length ms)
 suits_within ms r MakePair (a, b, h) = two_within ms r a b (pair a b) h

@@ -3,7 +3,7 @@ use Rattle.std.proofs.Common.{◌≡◌, refl, ap, subst, ◌∙◌, sym, ℕ, z
 use Rattle.std.proofs.lemmas.List.{length_push, get_or_push, get_or_append_left}
 use Rattle.std.proofs.lemmas.Option.{slice_get-get_or, get_or_from_slice_get}
 use Rattle.spi_term.specs.Lists.{In, in_first, in_later}
-use Rattle.spi_term.proofs.Lists.{in_append, in_cases}
+use Rattle.spi_term.proofs.Lists.{in_append, in_cases, in_left, in_right}
 use Rattle.spi_term.specs.Term.{Message, name}
 use Rattle.spi_run.specs.Reduction.{Configuration, Step, act, talk, Event, Runs, runs_none, runs_silent, runs_event}
 use Rattle.spi_run.specs.Knowledge.{shown, shown_in, names_below}
@@ -36,14 +36,6 @@ name_up (suc n) i lt =
     at ∙ ap (λ m. Some m) (f ∙ ap name (sym e)))
     (less_or_last i n lt)
 
-in_left_of : {A : Type 0} {x : A} {xs : List A} (ys : List A) → In x xs → In x (xs ++ ys)
-in_left_of ys in_first = in_first
-in_left_of ys (in_later i) = in_later (in_left_of ys i)
-
-in_right_of : {A : Type 0} {x : A} (xs : List A) {ys : List A} → In x ys → In x (xs ++ ys)
-in_right_of [] i = i
-in_right_of (x ∷ xs) i = in_later (in_right_of xs i)
-
 up_below : (n : ℕ) (m : Message) → In m (names_up n) → In m (names_below n)
 up_below zero m i = i
 up_below (suc n) m i = ⊎_elim
@@ -58,16 +50,16 @@ handed_shown c (talk i k) m j = j
 handed_in_shown : {c d : Configuration} {ss : List Step} {es : List Event} (r : Runs c ss es d) (m : Message) → In m (handed_in r) → In m (shown_in r)
 handed_in_shown runs_none m i = i
 handed_in_shown (runs_silent {c} {s = s} t r) m i = ⊎_elim
-    (λ j. in_left_of (shown_in r) (handed_shown c s m j))
-    (λ j. in_right_of (shown c s) (handed_in_shown r m j))
+    (λ j. in_left (shown_in r) (handed_shown c s m j))
+    (λ j. in_right (shown c s) (handed_in_shown r m j))
     (in_append (handed c s) i)
 handed_in_shown (runs_event {c} {s = s} t r) m i = ⊎_elim
-    (λ j. in_left_of (shown_in r) (handed_shown c s m j))
-    (λ j. in_right_of (shown c s) (handed_in_shown r m j))
+    (λ j. in_left (shown_in r) (handed_shown c s m j))
+    (λ j. in_right (shown c s) (handed_in_shown r m j))
     (in_append (handed c s) i)
 
 pub sent_shown : (n : ℕ) {c d : Configuration} {ss : List Step} {es : List Event} (r : Runs c ss es d) (m : Message) → In m (sent_in n r) → In m (names_below n ++ shown_in r)
 sent_shown n r m i = ⊎_elim
-    (λ j. in_left_of (shown_in r) (up_below n m j))
-    (λ j. in_right_of (names_below n) (handed_in_shown r m j))
+    (λ j. in_left (shown_in r) (up_below n m j))
+    (λ j. in_right (names_below n) (handed_in_shown r m j))
     (in_append (names_up n) i)

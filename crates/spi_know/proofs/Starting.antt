@@ -1,20 +1,18 @@
 -- Numbers of the messages sent.
-use Rattle.std.proofs.Common.{◌≡◌, refl, sym, ap, subst, ◌∙◌, ℕ, zero, suc, ◌+◌, ◌<◌, ◌≤◌, ◌⊎◌, inl, inr, ⊎_elim, List, [], ◌∷◌, ◌++◌, Some, slice_get, get_or, length, map, drop, below_more, arith}
+use Rattle.std.proofs.Common.{◌≡◌, refl, sym, ap, subst, ◌∙◌, ℕ, suc, ◌+◌, ◌<◌, ◌≤◌, ⊎_elim, List, [], ◌∷◌, ◌++◌, Some, slice_get, get_or, length, map, drop, below_more, arith}
+use Rattle.std.proofs.lemmas.Bool.{cases_lt}
 use Rattle.std.proofs.lemmas.List.{length_push, drop_more}
-use Rattle.std.proofs.lemmas.Option.{slice_get-map, slice_get_read, get_or_from_slice_get}
+use Rattle.std.proofs.lemmas.Option.{slice_get-map, slice_get_read, get_or_from_slice_get, slice_get_within}
 use Rattle.std.specs.Option.{option_map}
 use Rattle.spi_term.specs.Term as Term
 use Rattle.spi_term.specs.Term.{Message, message_size}
 use Rattle.spi_term.specs.View.{message}
 use Rattle.spi_term.specs.declared.term.Msg.{Msg}
+use Rattle.spi_term.proofs.Lists.{some_is, get_some, get_last, get_append}
 use Rattle.spi_horn.specs.Leading.{StartsWithin}
 use Rattle.spi_intern.specs.Table.{KeepsAll}
-use Rattle.spi_intern.proofs.Lists.{some_one, get_append, get_below, below_get}
+use Rattle.spi_term.proofs.Sizes.{some_message}
 use Rattle.spi_know.specs.Numbered.{HasNumber, AreFirstNumbers, StartsWith, nodes_in}
-
-pub get_end : {A : Type 0} (xs : List A) (y : A) → slice_get (xs ++ y ∷ []) (length xs) ≡ Some y
-get_end [] y = refl
-get_end (x ∷ xs) y = get_end xs y
 
 pub numbers_none : (ms sent : List Message) (numbers : List ℕ) → numbers ≡ [] → AreFirstNumbers ms sent 0 numbers
 numbers_none ms sent numbers e = record { count = ap length e; at = λ j m lt f. absurd (omega (arith, lt)) }
@@ -28,15 +26,15 @@ numbers_step ms ms' sent n id numbers numbers' m k e at is a =
     let count = a.count in
     let push = length_push numbers id in
     let len : length numbers' ≡ length (numbers ++ id ∷ []) = ap length e in
-    let last : slice_get numbers' n ≡ Some id = ap (slice_get numbers') (sym count) ∙ (ap (λ l. slice_get l (length numbers)) e ∙ get_end numbers id) in
+    let last : slice_get numbers' n ≡ Some id = ap (slice_get numbers') (sym count) ∙ (ap (λ l. slice_get l (length numbers)) e ∙ get_last numbers id) in
     let go : (j : ℕ) → j < n + 1 → P j = below_more P n
     (λ j lt x f. let (i, g, h) = a.at j x lt f in (i, ap (λ l. slice_get l j) e ∙ get_append numbers (id ∷ []) j i g, k.at i x h))
-    (λ x f. let q : m ≡ x = some_one (sym is ∙ f) in (id, last, at ∙ ap (λ z. Some z) q)) in
+    (λ x f. let q : m ≡ x = some_is (sym is ∙ f) in (id, last, at ∙ ap (λ z. Some z) q)) in
     record { count = omega (arith, count, push, len); at = λ j x lt f. go j lt x f }
 
 pub nodes_more : (xs : List Message) (i : ℕ) (m : Message) → slice_get xs i ≡ Some m → nodes_in (drop i xs) ≡ message_size m + nodes_in (drop (i + 1) xs)
 nodes_more xs i m e =
-    ap nodes_in (drop_more xs i m (get_below xs i m e))
+    ap nodes_in (drop_more xs i m (slice_get_within xs i m e))
     ∙ ap (λ z. message_size z + nodes_in (drop (i + 1) xs)) (get_or_from_slice_get xs i m m e)
 
 pub got_message : (sent : List Msg) (k : ℕ) (v : Msg) → k < length sent → v ≡ get_or sent k v → slice_get (map message sent) k ≡ Some (message v)
@@ -53,14 +51,14 @@ starts_all ms ms' sent n unit numbers numbers' is k e at a =
     let push = length_push numbers unit in
     let len : length numbers' ≡ length (numbers ++ unit ∷ []) = ap length e in
     let end : length sent ≡ length numbers = omega (arith, is, count) in
-    let last : slice_get numbers' (length sent) ≡ Some unit = ap (slice_get numbers') end ∙ (ap (λ l. slice_get l (length numbers)) e ∙ get_end numbers unit) in
+    let last : slice_get numbers' (length sent) ≡ Some unit = ap (slice_get numbers') end ∙ (ap (λ l. slice_get l (length numbers)) e ∙ get_last numbers unit) in
     record {
       count = omega (arith, push, len, end);
       sent_at = λ j m f.
-          let lt = get_below sent j m f in
+          let lt = slice_get_within sent j m f in
           let (i, g, h) = a.at j m (omega (arith, lt, is)) f in
           (i, ap (λ l. slice_get l j) e ∙ get_append numbers (unit ∷ []) j i g, k.at i m h);
-      unit_at = λ i f. let q : unit ≡ i = some_one (sym last ∙ f) in subst (λ x. HasNumber ms' x Term.unit) q at;
+      unit_at = λ i f. let q : unit ≡ i = some_is (sym last ∙ f) in subst (λ x. HasNumber ms' x Term.unit) q at;
     }
 
 pub starts_kept : (ms ms' sent : List Message) (start : List ℕ) → KeepsAll ms ms' → StartsWith ms sent start → StartsWith ms' sent start
@@ -70,36 +68,21 @@ starts_kept ms ms' sent start k s = record {
   unit_at = λ i e. k.at i Term.unit (s.unit_at i e);
 }
 
-below_or : (a b : ℕ) → (a < b) ⊎ (b ≤ a)
-below_or a zero = inr (omega arith)
-below_or zero (suc b) = inl (omega arith)
-below_or (suc a) (suc b) = ⊎_elim (λ lt. inl (omega (arith, lt))) (λ le. inr (omega (arith, le))) (below_or a b)
-
 pub starts_within : (ms sent : List Message) (start : List ℕ) → StartsWith ms sent start → StartsWithin (length ms) start
 starts_within ms sent start s j x e =
     let count = s.count in
-    let lt = get_below start j x e in
+    let lt = slice_get_within start j x e in
     ⊎_elim
     (λ less.
-    let (m, f) = below_get sent j less in
+    let (m, f) = get_some sent j less in
     let (i, g, h) = s.sent_at j m f in
-    let q : i ≡ x = some_one (sym g ∙ e) in
-    get_below ms x m (subst (λ y. HasNumber ms y m) q h))
+    let q : i ≡ x = some_is (sym g ∙ e) in
+    slice_get_within ms x m (subst (λ y. HasNumber ms y m) q h))
     (λ le.
     let w : length sent ≡ j = omega (arith, count, lt, le) in
-    get_below ms x Term.unit (s.unit_at x (ap (slice_get start) w ∙ e)))
-    (below_or j (length sent))
-
-node_at_least : (m : Message) → 1 ≤ message_size m
-node_at_least (Term.bound i) = omega arith
-node_at_least (Term.name x) = omega arith
-node_at_least Term.unit = omega arith
-node_at_least (Term.pair a b) = omega arith
-node_at_least (Term.in_left a) = omega arith
-node_at_least (Term.in_right a) = omega arith
-node_at_least (Term.enc a b) = omega arith
-node_at_least (Term.hash a) = omega arith
+    slice_get_within ms x Term.unit (s.unit_at x (ap (slice_get start) w ∙ e)))
+    (cases_lt j (length sent))
 
 pub length_nodes : (sent : List Msg) → length sent ≤ nodes_in (map message sent)
 length_nodes [] = omega arith
-length_nodes (x ∷ xs) = let h = length_nodes xs in let n = node_at_least (message x) in omega (arith, h, n)
+length_nodes (x ∷ xs) = let h = length_nodes xs in let n = some_message (message x) in omega (arith, h, n)

@@ -29,7 +29,7 @@ use Rattle.spi_message.specs.Filling.{value_of, or_bound, fill, values_of, atom_
 use Rattle.spi_message.specs.Giving.{HasParts}
 use Rattle.spi_message.specs.Added.{AllHaveParts, MessageIsAdded, AtomsAreAdded, TypeIsAdded}
 use Rattle.spi_message.proofs.Fills.{message_keeps, values_keep, two_values, values_at, value_mapped, value_in, fills_value}
-use Rattle.spi_message.proofs.FillsTypes.{TwoTys, OneTy, NonceTy, means_as, effect_push}
+use Rattle.spi_message.proofs.FillsTypes.{TwoTys, OneTy, NonceTy, means_as, effect_push, later_fill}
 
 -- ---- what has numbers keeps them
 
@@ -305,14 +305,11 @@ later_type : {s p q : Store} {vs : List MsgId} {depth : ℕ} {b : TyId} {w : Ty}
 later_type {s} {p} {q} {vs} {w = w} k v g d e m h =
     subst (λ us. Adds p q (a_type (ty_map (fill us) d w))) (values_keep vs k.messages v) (g.at d w e (means_keeps k m) (all_parts_keep k.messages v h))
 
-later_means : {s p q : Store} {vs : List MsgId} {depth : ℕ} {b y : TyId} {w : Ty} → Keeps s p → AreIdsBelow vs (length s.messages) → FillsTy p q vs depth b y → (d : ℕ) → IsDepth d depth → Means s b.place w → Means q y.place (ty_map (fill (values_of s.messages vs)) d w)
-later_means {s} {q = q} {vs = vs} {y = y} {w = w} k v g d h m = subst (λ us. Means q y.place (ty_map (fill us) d w)) (values_keep vs k.messages v) (g.at d w h (means_keeps k m))
-
 pub added_pair_ty : {E : Type 0} {s p q : Store} (r : Store) {vs : List MsgId} {depth deep : ℕ} {t a b x y : TyId} → TwoTys s t a b pair_ty → Keeps s p → AreIdsBelow vs (length s.messages) → FillsTy s p vs depth a x → TypeIsAdded s p vs depth a → ((d : ℕ) → IsDepth d depth → IsDepth (suc d) deep) → Keeps p q → FillsTy p q vs deep b y → TypeIsAdded p q vs deep b → Keeps q r → (o : Result TyId E) → OnOk o ((v w : Ty) → Means q x.place v → Means q y.place w → Adds q r (over_types (pair_ty v w))) → OnOk o (TypeIsAdded s r vs depth t)
 added_pair_ty {s = s} r {vs = vs} t k v f fa n l g ga j (Ok id) h = record {
   at = λ d u e m c.
       let z = t.at u m in
-      subst (λ w. Adds s r (a_type (ty_map (fill (values_of s.messages vs)) d w))) (sym z.2) (adds_pair (fa.at d z.0 e z.3 c) l (later_type k v ga (suc d) (n d e) z.4 c) j (h _ _ (means_keeps l (f.at d z.0 e z.3)) (later_means k v g (suc d) (n d e) z.4)));
+      subst (λ w. Adds s r (a_type (ty_map (fill (values_of s.messages vs)) d w))) (sym z.2) (adds_pair (fa.at d z.0 e z.3 c) l (later_type k v ga (suc d) (n d e) z.4 c) j (h _ _ (means_keeps l (f.at d z.0 e z.3)) (later_fill k v g (suc d) (n d e) z.4)));
 }
 added_pair_ty r t k v f fa n l g ga j (Err e) h = tt
 
@@ -320,7 +317,7 @@ pub added_sum_ty : {E : Type 0} {s p q : Store} (r : Store) {vs : List MsgId} {d
 added_sum_ty {s = s} r {vs = vs} t k v f fa l g ga j (Ok id) h = record {
   at = λ d u e m c.
       let z = t.at u m in
-      subst (λ w. Adds s r (a_type (ty_map (fill (values_of s.messages vs)) d w))) (sym z.2) (adds_sum (fa.at d z.0 e z.3 c) l (later_type k v ga d e z.4 c) j (h _ _ (means_keeps l (f.at d z.0 e z.3)) (later_means k v g d e z.4)));
+      subst (λ w. Adds s r (a_type (ty_map (fill (values_of s.messages vs)) d w))) (sym z.2) (adds_sum (fa.at d z.0 e z.3 c) l (later_type k v ga d e z.4 c) j (h _ _ (means_keeps l (f.at d z.0 e z.3)) (later_fill k v g d e z.4)));
 }
 added_sum_ty r t k v f fa l g ga j (Err e) h = tt
 

@@ -1,5 +1,5 @@
 -- What typing messages gives numbers to, form by form.
-use Rattle.std.proofs.Common.{◌≡◌, ℕ, zero, suc, ◌<◌, Bool, true, List, [], ◌∷◌, ◌++◌, Some, slice_get, length, refl, sym, ap, subst, ◌∙◌, ⊎_elim, Result, Ok, Err, OnOk, arith}
+use Rattle.std.proofs.Common.{◌≡◌, ℕ, zero, suc, ◌<◌, Bool, true, List, [], ◌∷◌, ◌++◌, Some, slice_get, length, refl, sym, ap, subst, ◌∙◌, ⊎_elim, arith}
 use Rattle.spi_term.specs.Term.{Message, name, pair, enc, Ty, un, pair_ty, sum_ty, key}
 use Rattle.spi_term.specs.Lists.{In, in_first, in_later}
 use Rattle.spi_term.specs.Substitution.{ty_map, ty_put}
@@ -27,10 +27,6 @@ use Rattle.spi_message.proofs.Standing.{stand_keeps}
 use Rattle.spi_message.proofs.Typings.{put_filled, filled_none, none_stay}
 use Rattle.spi_message.proofs.Questions.{values_push, below_more, stay_typed}
 use Rattle.spi_message.proofs.Giving.{gives_none, gives_one, gives_more, gives_as, part_trans, parts_of_part}
-
-pub on_ok : {A E P Q : Type 0} (o : Result A E) → (P → Q) → OnOk o P → OnOk o Q
-on_ok (Ok x) f h = f h
-on_ok (Err e) f h = tt
 
 -- ---- what is compared for a part
 

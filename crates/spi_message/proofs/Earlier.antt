@@ -2,6 +2,7 @@
 use Rattle.std.proofs.Common.{◌≡◌, ℕ, ◌<◌, List, Some, slice_get, sym, subst, ◌∙◌, length, get_or}
 use Rattle.std.proofs.lemmas.Option.{slice_get-get_or}
 use Rattle.spi_term.specs.Term.{Message, Atom, Ty}
+use Rattle.spi_term.proofs.Lists.{some_is}
 use Rattle.spi_rules.specs.Environment.{Env}
 use Rattle.spi_intern.specs.Table.{KeepsAll, TellsAll, tells_none, tells_next}
 use Rattle.spi_intern.specs.Kinds.{Kind}
@@ -10,7 +11,6 @@ use Rattle.spi_intern.specs.Meaning.{KindMeans, means_un, means_unit, means_pair
 use Rattle.spi_intern.specs.declared.atoms.AtomId.{AtomId}
 use Rattle.spi_intern.specs.declared.types.TyId.{TyId}
 use Rattle.spi_intern.specs.declared.store.Store.{Store}
-use Rattle.spi_intern.proofs.Lists.{some_one}
 use Rattle.spi_message.specs.Judging.{StandFor, stand_none, stand_next}
 
 -- a place that was there has the value that it had
@@ -45,13 +45,13 @@ kind_back f g (means_pair a b) (means_pair c d) = means_pair (kind_back f g a c)
 kind_back f g (means_sum a b) (means_sum c d) = means_sum (kind_back f g a c) (kind_back f g b d)
 kind_back f g (means_key a) (means_key c) = means_key (kind_back f g a c)
 kind_back f g (means_nonce {e = i} {ids = ids} e h) (means_nonce {ids = js} d l) =
-    means_nonce (at_back g i ids js e d) (ids_back f (some_one (sym (g.at i ids e) ∙ d)) h l)
+    means_nonce (at_back g i ids js e d) (ids_back f (some_is (sym (g.at i ids e) ∙ d)) h l)
 
 pub means_back : {s r : Store} {i : ℕ} {t u : Ty} → Keeps s r → Means s i t → Means r i u → Means s i u
 means_back {s} {r} {i} {t} {u} k h g = record {
   kind = g.kind;
   at = at_back k.types i h.kind g.kind h.at g.at;
-  means = kind_back k.messages k.effects (subst (λ x. KindMeans s.messages s.effects x t) (some_one (sym (k.types.at i h.kind h.at) ∙ g.at)) h.means) g.means;
+  means = kind_back k.messages k.effects (subst (λ x. KindMeans s.messages s.effects x t) (some_is (sym (k.types.at i h.kind h.at) ∙ g.at)) h.means) g.means;
 }
 
 pub stand_back : {s r : Store} {ids : List TyId} {d e : Env} → Keeps s r → StandFor s ids d → StandFor r ids e → StandFor s ids e

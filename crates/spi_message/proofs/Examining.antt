@@ -3,7 +3,7 @@ use Rattle.std.proofs.Common.{◌≡◌, ◌<◌, List, [], ◌∷◌, ◌++◌,
 use Rattle.spi_term.specs.Term.{Message, name, Effect, Ty, un, pair_ty, sum_ty, key, nonce}
 use Rattle.spi_term.specs.Counts.{SameEffect}
 use Rattle.spi_term.specs.Lists.{In, in_first as first_of, in_later as later_of}
-use Rattle.spi_term.specs.Substitution.{put, atom_map, effect_map, ty_map, ty_put}
+use Rattle.spi_term.specs.Substitution.{atom_map, effect_map, ty_map, ty_put}
 use Rattle.spi_effect.proofs.Laws.{same_map}
 use Rattle.spi_rules.specs.Environment.{Env}
 use Rattle.spi_intern.specs.Messages.{message_at}
@@ -31,7 +31,7 @@ use Rattle.spi_message.proofs.Typings.{put_filled, filled_none, none_stay, stay_
 use Rattle.spi_message.proofs.Questions.{values_push}
 use Rattle.spi_message.proofs.Giving.{gives_none, gives_one, gives_more, gives_as}
 use Rattle.spi_message.proofs.Comparing.{parts_push, un_part, alone_typing, none_have_parts}
-use Rattle.spi_message.proofs.Goods.{filled_is}
+use Rattle.spi_message.proofs.Goods.{filled_is, name_stays}
 
 -- ---- one atom
 
@@ -129,9 +129,6 @@ nonce_examined {s} {r} {ids = ids} {js = js} {env = env} {ns = ns} {vs = vs} {ws
   where
     across : {e : Env} {es fs : Effect} {g : Given} → SameEffect es fs → Examined e (nonce es) g → Examined e (nonce fs) g
     across same (of_atom {a = a} i o) = of_atom (atom_same_in a same i) o
-
-name_stays : (x : ℕ) (n : Message) (d : ℕ) → put n d (name x) ≡ name x
-name_stays x n d = refl
 
 name_part : (x : ℕ) (y : Message) → PartOf y (name x) → y ≡ name x
 name_part x y whole = refl

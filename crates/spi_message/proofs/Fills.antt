@@ -1,5 +1,6 @@
 -- Messages with values for their indices, by their numbers.
 use Rattle.std.proofs.Common.{◌≡◌, ℕ, zero, suc, ◌<◌, ◌≤◌, ◌^◌, List, [], ◌∷◌, Some, None, slice_get, length, refl, sym, ap, ◌∙◌, arith, Result, Ok, Err, IfOk}
+use Rattle.std.proofs.lemmas.Option.{slice_get_within}
 use Rattle.std.specs.Prelude.{Bool, true, false, ◌-◌, nat_lt, if◌then◌else◌, option_map}
 use Rattle.spi_term.specs.Term.{Message, bound, name, unit, message_size}
 use Rattle.spi_intern.specs.Table.{KeepsAll}
@@ -7,12 +8,11 @@ use Rattle.spi_intern.specs.Messages.{Says, message_at}
 use Rattle.spi_intern.specs.Given.{IsOverGiven}
 use Rattle.spi_intern.specs.declared.messages.MsgId.{MsgId}
 use Rattle.spi_intern.specs.declared.messages.MsgPart.{MsgPart}
-use Rattle.spi_intern.proofs.Lists.{get_below}
 use Rattle.spi_intern.proofs.Sized.{TwoOf, OneOf, SaysTwo, SaysOne, at_message, message_there}
 use Rattle.spi_message.specs.Filling.{last_but, value_of, or_bound, fill, values_of, AreIdsBelow, IsDepth, FillsMessage}
 
 pub below_keeps : {ms ns : List Message} (id : MsgId) → KeepsAll ms ns → id.place < length ms → id.place < length ns
-below_keeps {ms} {ns} id k h = get_below ns id.place (message_at ms id) (k.at _ _ (message_there ms id h))
+below_keeps {ms} {ns} id k h = slice_get_within ns id.place (message_at ms id) (k.at _ _ (message_there ms id h))
 
 pub message_keeps : {ms ns : List Message} (id : MsgId) → KeepsAll ms ns → id.place < length ms → message_at ns id ≡ message_at ms id
 message_keeps {ms} {ns} id k h = at_message ns id (k.at _ _ (message_there ms id h))

@@ -1,5 +1,6 @@
 -- Atoms and types with values for their indices.
-use Rattle.std.proofs.Common.{◌≡◌, ℕ, zero, suc, ◌+◌, ◌<◌, ◌≤◌, ◌^◌, List, [], ◌∷◌, ◌++◌, map, get_or, Some, slice_get, length, refl, sym, ap, subst, ◌∙◌, arith, Result, Ok, Err, IfOk}
+use Rattle.std.proofs.Common.{◌≡◌, ℕ, zero, suc, ◌+◌, ◌<◌, ◌≤◌, ◌^◌, List, [], ◌∷◌, ◌++◌, map, Some, slice_get, length, refl, sym, ap, subst, ◌∙◌, arith, Result, Ok, Err, IfOk}
+use Rattle.std.proofs.lemmas.Option.{slice_get_within}
 use Rattle.spi_term.specs.Term as Term
 use Rattle.spi_term.specs.Term.{Message, Atom, ends, checks, many, Effect, Ty, unit_ty, pair_ty, sum_ty, key, nonce}
 use Rattle.spi_term.specs.Counts.{SameEffect}
@@ -20,7 +21,6 @@ use Rattle.spi_intern.specs.declared.atoms.AtomId.{AtomId}
 use Rattle.spi_intern.specs.declared.atoms.AtomId.TheVariants.{End, Check, Many}
 use Rattle.spi_intern.specs.declared.store.Store.{Store}
 use Rattle.spi_intern.specs.declared.store.TyPart.TheVariants as Part
-use Rattle.spi_intern.proofs.Lists.{get_below}
 use Rattle.spi_intern.proofs.Tables.{tells_map, tells_push}
 use Rattle.spi_intern.proofs.Meanings.{atom_keeps, means_keeps}
 use Rattle.spi_intern.proofs.Sized.{at_message}
@@ -65,9 +65,9 @@ atoms_next {ls} {ms} {ns} {vs} {xs = xs} {ys = ys} {rs = rs} {a = a} {r = r} k v
 
 -- atoms that mean an effect are over messages of the table, and the effect is theirs
 told_at : {ms : List Message} {a : AtomId} {b : Atom} → SaysAtom ms a b → (b ≡ atom_at ms a) × ((message_in a).place < length ms)
-told_at {ms} (says_end {a = a} {m = m} e) = (ap ends (sym (at_message ms a e)), get_below ms a.place m e)
-told_at {ms} (says_check {a = a} {m = m} e) = (ap checks (sym (at_message ms a e)), get_below ms a.place m e)
-told_at {ms} (says_many {a = a} {m = m} e) = (ap many (sym (at_message ms a e)), get_below ms a.place m e)
+told_at {ms} (says_end {a = a} {m = m} e) = (ap ends (sym (at_message ms a e)), slice_get_within ms a.place m e)
+told_at {ms} (says_check {a = a} {m = m} e) = (ap checks (sym (at_message ms a e)), slice_get_within ms a.place m e)
+told_at {ms} (says_many {a = a} {m = m} e) = (ap many (sym (at_message ms a e)), slice_get_within ms a.place m e)
 
 pub told_are : {ms : List Message} {ids : List AtomId} {es : List Atom} → TellsAll (SaysAtom ms) ids es → es ≡ map (atom_at ms) ids
 told_are tells_none = refl
@@ -204,7 +204,7 @@ fills_un {s} {vs} {t = t} f = record { at = λ d u h m. subst (λ w. Means s t.p
 pub fills_unit_ty : {s : Store} {vs : List MsgId} {depth : ℕ} {t : TyId} → ((u : Ty) → Means s t.place u → u ≡ unit_ty) → FillsTy s s vs depth t t
 fills_unit_ty {s} {vs} {t = t} f = record { at = λ d u h m. subst (λ w. Means s t.place (ty_map (fill (values_of s.messages vs)) d w)) (sym (f u m)) (subst (Means s t.place) (f u m) m) }
 
-later_fill : {s p q : Store} {vs : List MsgId} {depth : ℕ} {b y : TyId} {w : Ty} → Keeps s p → AreIdsBelow vs (length s.messages) → FillsTy p q vs depth b y → (d : ℕ) → IsDepth d depth → Means s b.place w → Means q y.place (ty_map (fill (values_of s.messages vs)) d w)
+pub later_fill : {s p q : Store} {vs : List MsgId} {depth : ℕ} {b y : TyId} {w : Ty} → Keeps s p → AreIdsBelow vs (length s.messages) → FillsTy p q vs depth b y → (d : ℕ) → IsDepth d depth → Means s b.place w → Means q y.place (ty_map (fill (values_of s.messages vs)) d w)
 later_fill {s} {q = q} {vs = vs} {y = y} {w = w} k v g d h m = subst (λ us. Means q y.place (ty_map (fill us) d w)) (values_keep vs k.messages v) (g.at d w h (means_keeps k m))
 
 pub fills_pair_ty : {E : Type 0} {s p q : Store} (r : Store) {vs : List MsgId} {depth deep : ℕ} {t a b x y : TyId} → TwoTys s t a b pair_ty → Keeps s p → AreIdsBelow vs (length s.messages) → FillsTy s p vs depth a x → ((d : ℕ) → IsDepth d depth → IsDepth (suc d) deep) → Keeps p q → FillsTy p q vs deep b y → (o : Result TyId E) → IfOk o (λ id. (v w : Ty) → Means q x.place v → Means q y.place w → Means r id.place (pair_ty v w)) → IfOk o (FillsTy s r vs depth t)
@@ -243,8 +243,3 @@ fills_nonce_ty p r t e f (Err x) at = tt
 
 pub given_atoms : {ms ns : List Message} {vs : List MsgId} {depth : ℕ} {xs rs : List AtomId} → depth ≤ 2 ^ 32 → FillsAtoms ms ns vs depth xs rs → AreGiven ns rs
 given_atoms {depth = depth} h f = record { effect = _; each = f.at depth (omega arith) }
-
-pub get_there : {A : Type 0} (xs : List A) (i : ℕ) (d : A) → i < length xs → slice_get xs i ≡ Some (get_or xs i d)
-get_there [] i d h = absurd (omega arith)
-get_there (x ∷ xs) zero d h = refl
-get_there (x ∷ xs) (suc i) d h = get_there xs i d (omega arith)

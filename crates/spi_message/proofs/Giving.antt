@@ -3,18 +3,17 @@ use Rattle.std.proofs.Common.{◌≡◌, ℕ, zero, suc, List, [], ◌∷◌, �
 use Rattle.spi_term.specs.Term.{Message, Effect, Ty, un}
 use Rattle.spi_term.specs.Lists.{In, in_first as first_of, in_later as later_of}
 use Rattle.spi_term.specs.Substitution.{ty_put}
+use Rattle.spi_term.proofs.Lists.{some_is}
 use Rattle.spi_rules.specs.Environment.{Env}
 use Rattle.spi_intern.specs.Messages.{message_at}
 use Rattle.spi_intern.specs.Parts.{PartOf, whole, of_first, of_second, of_left, of_right, of_body, of_key, of_hash, InEffect, in_first, in_later, InTy, in_pair_first, in_pair_second, in_sum_left, in_sum_right, in_key, in_nonce}
 use Rattle.spi_intern.specs.Meaning.{Means, Keeps, NoneTwice}
-use Rattle.spi_intern.specs.Growing.{Has, Given, a_type, MessageIn, Adds, Gave, gave_none, gave_next, GaveAtLeast, gave_nothing, gave_also, gave_up, MessageAmong, CountsParts, CountsPartsAtLeast}
+use Rattle.spi_intern.specs.Growing.{Has, Given, a_type, MessageIn, Adds, Gave, gave_none, gave_next, GaveAtLeast, gave_nothing, gave_also, MessageAmong, CountsParts, CountsPartsAtLeast}
 use Rattle.spi_intern.specs.declared.messages.MsgId.{MsgId}
 use Rattle.spi_intern.specs.declared.types.TyId.{TyId}
 use Rattle.spi_intern.specs.declared.store.Store.{Store}
-use Rattle.spi_intern.proofs.Lists.{some_one}
 use Rattle.spi_intern.proofs.Meanings.{terms_same, terms_more}
-use Rattle.spi_intern.proofs.Grown.{has_kept}
-use Rattle.spi_intern.proofs.Counted.{counted, counted_at_least}
+use Rattle.spi_intern.proofs.Counted.{counted, counted_at_least, has_only, has_still}
 use Rattle.spi_intern.proofs.Sized.{at_message}
 use Rattle.spi_message.specs.Filling.{values_of}
 use Rattle.spi_message.specs.Judging.{Numbered}
@@ -28,10 +27,6 @@ in_either : {A : Type 0} {x : A} (xs ys : List A) → In x (xs ++ ys) → In x x
 in_either [] ys h = inr h
 in_either (y ∷ xs) ys first_of = inl first_of
 in_either (y ∷ xs) ys (later_of h) = ⊎_elim (λ a. inl (later_of a)) inr (in_either xs ys h)
-
-in_before : {A : Type 0} {x : A} {xs : List A} (ys : List A) → In x xs → In x (xs ++ ys)
-in_before ys first_of = first_of
-in_before ys (later_of h) = later_of (in_before ys h)
 
 pub grows_keeps : {s r : Store} {gs : List Given} → GrowsBy s gs r → Keeps s r
 grows_keeps {s} grows_none = terms_same s
@@ -67,7 +62,7 @@ abbrev pub OpeningAdds : {E : Type 0} → Result TyId E → Store → TyId → M
 OpeningAdds r q t m j = OnOk r ((u : Ty) (n : Message) → Means j.store t.place u → slice_get j.store.messages m.place ≡ Some n → HasParts j.store.messages n → Adds j.store q (a_type (ty_put n u)))
 
 one_has_parts : (s : Store) (m : MsgId) → HasParts s.messages (message_at s.messages m) → (i : ℕ) (v : Message) → slice_get (values_of s.messages (m ∷ [])) i ≡ Some v → HasParts s.messages v
-one_has_parts s m p zero v g = subst (HasParts s.messages) (some_one g) p
+one_has_parts s m p zero v g = subst (HasParts s.messages) (some_is g) p
 one_has_parts s m p (suc i) v g = absurd cc
 
 pub opened_adds : {E : Type 0} (s q : Store) (f : ℕ) (ids : List TyId) (t : TyId) (m : MsgId) (r : Result TyId E) → OnOk r (TypeIsAdded s q (m ∷ []) 0 t) → OpeningAdds r q t m record { store = s; free = f; types = ids }
@@ -113,22 +108,9 @@ whole_parts _ whole_type p h = in_types p h
 among_parts : {gs : List Given} {x y : Message} → AreWhole gs → PartOf x y → MessageAmong gs y → MessageAmong gs x
 among_parts w p m = record { given = m.given; stands = m.stands; part = whole_parts m.given (w.each m.given m.stands) p m.part }
 
-has_still : {gs : List Given} {s : Store} → GaveAtLeast gs s → (x : Message) (g : Given) → In g gs → MessageIn g x → Has s.messages x
-has_still gave_nothing x g i p = elim i [ ]
-has_still (gave_also w k a) x g first_of p = a.messages.all x p
-has_still (gave_also w k a) x g (later_of i) p = has_kept k.messages (has_still w x g i p)
-has_still (gave_up w k) x g i p = has_kept k.messages (has_still w x g i p)
-
 least_of : {gs : List Given} {s : Store} → Gave gs s → GaveAtLeast gs s
 least_of (gave_none e f) = gave_nothing
 least_of (gave_next w k a) = gave_also (least_of w) k a
-
-later : {g : Given} {gs : List Given} {x : Message} → MessageAmong gs x → MessageAmong (g ∷ gs) x
-later m = record { given = m.given; stands = later_of m.stands; part = m.part }
-
-has_only : {gs : List Given} {s : Store} → Gave gs s → (x : Message) → Has s.messages x → MessageAmong gs x
-has_only (gave_none e f) x h = let z = ap (λ zs. slice_get zs h.place) (sym e) ∙ h.at in absurd cc
-has_only (gave_next {g = g} w k a) x h = ⊎_elim (λ o. later (has_only w x o)) (λ p. record { given = g; stands = first_of; part = p }) (a.messages.only x h)
 
 pub judged_parts : (gs : List Given) (s : Store) (n : Message) → HasGiven gs s → Has s.messages n → HasParts s.messages n
 judged_parts gs s n w h = record { each = λ x p. let m = among_parts w.whole p (has_only w.gave n h) in has_still (least_of w.gave) x m.given m.stands m.part }

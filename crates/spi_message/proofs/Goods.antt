@@ -1,10 +1,12 @@
 -- Good types over shared terms.
 use Rattle.std.proofs.Common.{◌≡◌, ℕ, zero, suc, ◌+◌, ◌<◌, ◌≤◌, Bool, true, false, ◌&&◌, List, [], ◌∷◌, ◌++◌, map, drop, get_or, Some, length, length-append, refl, sym, ap, subst, ◌∙◌, arith, Result, Ok, Err, IfOk}
+use Rattle.std.proofs.lemmas.Option.{slice_get_within}
 use Rattle.std.specs.Prelude.{slice_get}
 use Rattle.spi_term.specs.Term.{Message, name, Effect, Ty, un, unit_ty, pair_ty, sum_ty, key}
 use Rattle.spi_term.specs.Counts.{SameEffect}
 use Rattle.spi_term.specs.Substitution.{put, atom_map, effect_map, ty_map, ty_put}
 use Rattle.spi_term.proofs.Counting.{same_sym}
+use Rattle.spi_term.proofs.Choices.{truths}
 use Rattle.spi_effect.proofs.Laws.{same_map, same_within}
 use Rattle.spi_rules.specs.Environment.{Env}
 use Rattle.spi_rules.proofs.Good.{good_within}
@@ -18,7 +20,6 @@ use Rattle.spi_intern.specs.declared.types.TyId.{TyId}
 use Rattle.spi_intern.specs.declared.atoms.AtomId.{AtomId}
 use Rattle.spi_intern.specs.declared.atoms.AtomId.TheVariants.{End, Check, Many}
 use Rattle.spi_intern.specs.declared.store.Store.{Store}
-use Rattle.spi_intern.proofs.Lists.{truths, get_below}
 use Rattle.spi_intern.proofs.Meanings.{means_keeps}
 use Rattle.spi_intern.proofs.Sized.{at_message}
 use Rattle.spi_message.specs.Judging.{StandFor}
@@ -34,7 +35,7 @@ use Rattle.spi_message.proofs.Questions.{below_more, values_push}
 
 -- a message that was filled
 pub filled_below : {ms ns : List Message} {vs : List MsgId} {m r : MsgId} → FillsMessage ms ns vs 0 m r → r.place < length ns
-filled_below {ms} {ns} {vs} {m} {r} f = get_below ns r.place _ (f.at 0 (omega arith))
+filled_below {ms} {ns} {vs} {m} {r} f = slice_get_within ns r.place _ (f.at 0 (omega arith))
 
 pub filled_is : {ms ns : List Message} {vs : List MsgId} {m r : MsgId} → FillsMessage ms ns vs 0 m r → message_at ns r ≡ fill (values_of ms vs) 0 (message_at ms m)
 filled_is {ns = ns} {r = r} f = at_message ns r (f.at 0 (omega arith))
@@ -76,12 +77,6 @@ drop_one (x ∷ xs) (suc i) d h = drop_one xs i d (omega arith)
 
 pub drop_next : {A : Type 0} (xs : List A) (i : ℕ) (d : A) → i < length xs → drop i xs ≡ get_or xs i d ∷ drop (i + 1) xs
 drop_next xs i d h = let e : suc i ≡ i + 1 = omega arith in drop_one xs i d h ∙ ap (λ j. get_or xs i d ∷ drop j xs) e
-
-pub drop_all : {A : Type 0} (xs : List A) (i : ℕ) → length xs ≤ i → drop i xs ≡ []
-drop_all [] zero h = refl
-drop_all [] (suc i) h = refl
-drop_all (x ∷ xs) zero h = absurd (omega arith)
-drop_all (x ∷ xs) (suc i) h = drop_all xs i (omega arith)
 
 -- an answer on an atom, over a store that has grown
 good_later : {s r : Store} {env : List TyId} {a : AtomId} {vs : List MsgId} {b : Bool} → Keeps s r → (message_in a).place < length s.messages → AreIdsBelow vs (length s.messages) → IsGoodAtom r env a vs b → IsGoodAtom s env a vs b
@@ -166,7 +161,7 @@ pub pair_bad : {s : Store} {env : List TyId} {t x y : TyId} {vs : List MsgId} {c
 pair_bad t h q =
     two_bad (λ e us v w. let under = ty_map (fill us) 1 w in (good (e ++ filled us v ∷ []) (ty_put (name (length e)) under), good-pair e (filled us v) under)) t h q
 
-name_stays : (x : ℕ) (n : Message) (d : ℕ) → put n d (name x) ≡ name x
+pub name_stays : (x : ℕ) (n : Message) (d : ℕ) → put n d (name x) ≡ name x
 name_stays x n d = refl
 
 -- The first type is good, the store has grown by what was asked, by the name and by the first type, and then the
@@ -212,7 +207,7 @@ pub asked_good_under : {s q r : Store} {env ns : List TyId} {t y o : TyId} (m : 
 asked_good_under {q = q} {r = r} {env = env} {y = y} {o = o} m k h g l at j d p w = record {
   names = subst (IsEnvironment r) (sym p) record { env = _; stands = stand_push (stand_keeps j (stand_keeps k h.names.stands)) d.means };
   given = given_keeps j (given_keeps k g);
-  values = below_more (all_below_keeps j.messages (all_below_keeps k.messages h.values)) (below_keeps m j.messages (get_below q.messages m.place _ at)) w;
+  values = below_more (all_below_keeps j.messages (all_below_keeps k.messages h.values)) (below_keeps m j.messages (slice_get_within q.messages m.place _ at)) w;
   few =
       let f = h.few in let e = size_of_kept y k g in let b = size_of_kept y j (given_keeps k g) in
       let n = ap length p in let c = length-append env (o ∷ []) in

@@ -4,12 +4,13 @@ use Rattle.std.specs.Option.{option_to_list}
 use native.Mathlib.Decide.{dec_lt}
 use Rattle.std.proofs.lemmas.List.{take-append-le, take-append-drop, take_all}
 use Rattle.std.proofs.lemmas.Option.{slice_get_within, slice_get-get_or}
+use Rattle.spi_term.proofs.Lists.{get_append}
 use Rattle.spi_rules.specs.Environment.{Env}
 use Rattle.spi_intern.specs.Given.{IsGiven}
 use Rattle.spi_intern.specs.Meaning.{Keeps}
 use Rattle.spi_intern.specs.declared.types.TyId.{TyId}
 use Rattle.spi_intern.specs.declared.store.Store.{Store}
-use Rattle.spi_intern.proofs.Lists.{get_append, get_push}
+use Rattle.spi_intern.proofs.Lists.{get_push}
 use Rattle.spi_intern.proofs.Meanings.{means_keeps}
 use Rattle.spi_message.specs.declared.answers.Asked.{Asked}
 use Rattle.spi_message.specs.declared.answers.Asked.TheVariants.{Typed, Labelled, Good}

@@ -3,12 +3,13 @@ use Rattle.std.proofs.Common.{◌≡◌, ℕ, zero, suc, Bool, true, false, cond
 use Rattle.std.proofs.lemmas.Bool.{eqb-true, eq-eqb}
 use Rattle.std.proofs.lemmas.Map.Entries.{place_from_lookup}
 use Rattle.std.specs.Map.{lookup}
+use Rattle.spi_term.proofs.Lists.{some_is}
+use Rattle.spi_term.proofs.Counting.{and_true}
 use Rattle.spi_intern.specs.declared.messages.MsgId.{MsgId}
 use Rattle.spi_intern.specs.declared.types.TyId.{TyId}
 use Rattle.spi_intern.specs.contracts.messages.MsgIdPartialEq.TheImpl.{eq-value as eq_of_messages}
 use Rattle.spi_intern.specs.contracts.types.TyIdPartialEq.TheImpl.{eq-value as eq_of_types}
-use Rattle.spi_intern.proofs.Lists.{some_one}
-use Rattle.spi_intern.proofs.MessageLaws.{both, both_are}
+use Rattle.spi_intern.proofs.MessageLaws.{both_are}
 use Rattle.spi_message.specs.declared.answers.Asked.{Asked}
 use Rattle.spi_message.specs.declared.answers.Asked.TheVariants.{Typed, Labelled, Good}
 use Rattle.spi_message.specs.declared.answers.Question.{Question}
@@ -35,7 +36,7 @@ type_self : (a : TyId) → eq_of_types.it a a ≡ true
 type_self a = eq-eqb a.place a.place refl
 
 asked_true : (a b : Asked) → asked_eq a b ≡ true → a ≡ b
-asked_true (Typed m t) (Typed n u) h = let e = both (eq_of_messages.it m n) (eq_of_types.it t u) h in λ i. Typed (message_true m n e.0 i) (type_true t u e.1 i)
+asked_true (Typed m t) (Typed n u) h = let e = and_true (eq_of_messages.it m n) (eq_of_types.it t u) h in λ i. Typed (message_true m n e.0 i) (type_true t u e.1 i)
 asked_true (Labelled m) (Labelled n) h = ap Labelled (message_true m n h)
 asked_true (Good t) (Good u) h = ap Good (type_true t u h)
 asked_true a b h = absurd (true≢false (sym h))
@@ -47,7 +48,7 @@ asked_self (Good t) = type_self t
 
 pub question_true : (p q : Question) → question_eq p q ≡ true → p ≡ q
 question_true p q h =
-    let e = both _ (asked_eq p.asked q.asked) h in
+    let e = and_true _ (asked_eq p.asked q.asked) h in
     let n = eqb-true p.names q.names e.0 in
     let a = asked_true p.asked q.asked e.1 in
     λ i. record { names = n i; asked = a i }
@@ -58,7 +59,7 @@ question_self q = both_are _ (asked_eq q.asked q.asked) (eq-eqb q.names q.names 
 -- an entry whose key passes the test is found
 passed : (test : Question → Bool) (es : Entries) (i : ℕ) (q : Question) (b : Bool) → slice_get es i ≡ Some (q, b) → test q ≡ true → lookup test es ≡ None → ⊥
 passed test [] i q b h t e = cc
-passed test (x ∷ es) zero q b h t e = true≢false (sym t ∙ ap test (sym (ap (λ p. p.0) (some_one h))) ∙ first (test x.0) e)
+passed test (x ∷ es) zero q b h t e = true≢false (sym t ∙ ap test (sym (ap (λ p. p.0) (some_is h))) ∙ first (test x.0) e)
   where
     first : (c : Bool) → cond c (Some x.1) (lookup test es) ≡ None → c ≡ false
     first true e = absurd cc

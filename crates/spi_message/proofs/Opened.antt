@@ -5,17 +5,13 @@ use Rattle.std.proofs.lemmas.Bool.{cases_lt, cases_eq, lt-ltb, le-ltb, ne_eqb}
 use Rattle.spi_term.specs.Term.{Message, bound, name, unit, pair, in_left, in_right, enc, hash, Leaf, Prefix, Recvs, Serves, Splits, Selects, Decrypts, Checks, Begins, Ends, EndManys, Casts, Freshes, Fork, Branches, Pars, Process, leaf, prefix, fork, binds, fork_binds, process_size}
 use Rattle.spi_term.specs.Substitution.{process_map, leaf_map, prefix_map, fork_map, put}
 use Rattle.spi_term.specs.Spelling.{under, name_or_index, name_message, numbered}
-use Rattle.spi_term.proofs.Terms.{binds_map, fork_binds_map}
+use Rattle.spi_term.specs.Names.{MessageOver, OfProcess, ProcessOver}
+use Rattle.spi_term.proofs.Terms.{binds_map, fork_binds_map, over_put_process}
 use Rattle.spi_term.proofs.Maps.{fixed_leaf, fixed_prefix, fixed_fork, each_leaf, each_prefix, each_fork, joined_leaf, joined_prefix, joined_fork}
+use Rattle.spi_term.proofs.Choices.{if_yes, if_no}
 use Rattle.spi_rules.specs.Environment.{Env}
 use Rattle.spi_message.specs.Forms.{enter, more, on_first, on_rest}
 use Rattle.spi_message.proofs.Typings.{stays_mapped}
-
-if_yes : {A : Type 0} {b : Bool} (x y : A) → b ≡ true → (if b then x else y) ≡ x
-if_yes x y e = rw e
-
-if_no : {A : Type 0} {b : Bool} (x y : A) → b ≡ false → (if b then x else y) ≡ y
-if_no x y e = rw e
 
 if_both : {A : Type 0} (b : Bool) (x : A) → (if b then x else x) ≡ x
 if_both true x = refl
@@ -130,6 +126,12 @@ size_put (fork f p q) d n = omega (arith, size_put p (d + fork_binds f) n, size_
 pub size_enter : (b k : ℕ) (p : Process) → process_size (enter b k p) ≡ process_size p
 size_enter zero k p = refl
 size_enter (suc b) k p = size_enter b (suc k) (process_map (put (name k)) b p) ∙ size_put p b (name k)
+
+pub over_enter : (b k n : ℕ) (p : Process) → k + b ≤ n → OfProcess (MessageOver n) b p → ProcessOver n (enter b k p)
+over_enter zero k n p l o = o
+over_enter (suc b) k n p l o =
+    let low : k < n = omega (arith, l) in
+    over_enter b (suc k) n (process_map (put (name k)) b p) (omega (arith, l)) (over_put_process n (name k) low b p o)
 
 pub length_more : (e : Env) (s : Prefix) → length (more e s) ≡ binds s
 length_more e (Recvs m t) = refl

@@ -5,6 +5,7 @@ use Rattle.std.proofs.lemmas.Bool.{eqb-true, eq-eqb}
 use Rattle.spi_term.specs.Term.{Message, bound, name, unit, pair, in_left, in_right, enc, hash, Ty, un, pair_ty, sum_ty, key}
 use Rattle.spi_term.specs.SameTy.{SameTy}
 use Rattle.spi_term.specs.Substitution.{ty_map, ty_put}
+use Rattle.spi_term.proofs.Choices.{truths}
 use Rattle.spi_effect.specs.Made.{same_ty}
 use Rattle.spi_effect.proofs.Made.{same_sound, same_complete}
 use Rattle.spi_rules.specs.Environment.{Env}
@@ -19,7 +20,6 @@ use Rattle.spi_intern.specs.declared.types.TyId.{TyId}
 use Rattle.spi_intern.specs.declared.store.Store.{Store}
 use Rattle.spi_intern.specs.declared.store.TyPart.{TyPart}
 use Rattle.spi_intern.specs.declared.store.TyPart.TheVariants.{Un, Unit as NoParts, Pair, Sum, Key}
-use Rattle.spi_intern.proofs.Lists.{truths}
 use Rattle.spi_intern.proofs.Meanings.{means_keeps}
 use Rattle.spi_intern.proofs.Sized.{Tells, message_there}
 use Rattle.spi_intern.proofs.Telling.{types_tell}

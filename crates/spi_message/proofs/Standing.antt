@@ -2,16 +2,16 @@
 use Rattle.std.proofs.Common.{◌≡◌, ℕ, zero, suc, ◌≤◌, true, false, List, [], ◌∷◌, ◌++◌, Some, None, length, get_or, refl, sym, ap, subst, ◌∙◌, arith}
 use Rattle.std.specs.Prelude.{slice_get, nat_lt, replicate}
 use Rattle.std.proofs.lemmas.Bool.{ltb-true, ltb-false, le-ltb}
+use Rattle.std.proofs.lemmas.Option.{slice_get-get_or}
 use Rattle.spi_term.specs.Term.{Ty}
+use Rattle.spi_term.proofs.Lists.{some_is}
 use Rattle.spi_rules.specs.Environment.{Env}
 use Rattle.spi_intern.specs.Meaning.{Means, Keeps}
 use Rattle.spi_intern.specs.declared.types.TyId.{TyId}
 use Rattle.spi_intern.specs.declared.store.Store.{Store}
-use Rattle.spi_intern.proofs.Lists.{some_one}
 use Rattle.spi_intern.proofs.Meanings.{means_keeps}
 use Rattle.spi_message.specs.Judging.{StandFor, stand_none, stand_next}
 use Rattle.spi_message.specs.Asking.{IsEnvironment}
-use Rattle.spi_message.proofs.FillsTypes.{get_there}
 
 -- what the numbers stand for stays as the store grows
 pub stand_keeps : {s r : Store} {ids : List TyId} {e : Env} → Keeps s r → StandFor s ids e → StandFor r ids e
@@ -41,7 +41,7 @@ environment_keeps k h = record { env = h.env; stands = stand_keeps k h.stands }
 -- the type of a name
 pub stand_at : {s : Store} {ids : List TyId} {e : Env} → StandFor s ids e → (x : ℕ) (i : TyId) → slice_get ids x ≡ Some i → (t : Ty) × (slice_get e x ≡ Some t) × Means s i.place t
 stand_at stand_none x i h = absurd cc
-stand_at {s} (stand_next {i = j} {t = t} m w) zero i h = (t, refl, subst (λ k. Means s k.place t) (some_one h) m)
+stand_at {s} (stand_next {i = j} {t = t} m w) zero i h = (t, refl, subst (λ k. Means s k.place t) (some_is h) m)
 stand_at (stand_next m w) (suc x) i h = stand_at w x i h
 
 pub stand_none_at : {s : Store} {ids : List TyId} {e : Env} → StandFor s ids e → (x : ℕ) → slice_get ids x ≡ None → slice_get e x ≡ None
@@ -51,7 +51,7 @@ stand_none_at (stand_next m w) (suc x) h = stand_none_at w x h
 
 -- a look-up
 pub found_at : {A : Type 0} (xs : List A) (i : ℕ) (x d : A) → true ≡ nat_lt i (length xs) → x ≡ get_or xs i d → slice_get xs i ≡ Some x
-found_at xs i x d h e = get_there xs i d (ltb-true i (length xs) (sym h)) ∙ ap Some (sym e)
+found_at xs i x d h e = slice_get-get_or xs i d (ltb-true i (length xs) (sym h)) ∙ ap Some (sym e)
 
 pub missing_at : {A : Type 0} (xs : List A) (i : ℕ) → false ≡ nat_lt i (length xs) → slice_get xs i ≡ None
 missing_at [] i h = refl

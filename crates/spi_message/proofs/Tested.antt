@@ -3,6 +3,7 @@ use Rattle.std.proofs.Common.{◌≡◌, ◌↔◌, ℕ, ◌<◌, Bool, true, fa
 use Rattle.std.specs.Prelude.{slice_get}
 use Rattle.std.proofs.lemmas.Option.{slice_get_past}
 use Rattle.spi_term.specs.Term.{Message, name, Ty, un, nonce}
+use Rattle.spi_term.proofs.Choices.{truths}
 use Rattle.spi_rules.specs.Environment.{Env}
 use Rattle.spi_rules.specs.Messages.{HasType, IsLabel}
 use Rattle.spi_rules.specs.Good.{GoodTy}
@@ -15,7 +16,6 @@ use Rattle.spi_intern.specs.declared.atoms.AtomId.{AtomId}
 use Rattle.spi_intern.specs.declared.store.Store.{Store}
 use Rattle.spi_intern.specs.declared.store.TyPart.{TyPart}
 use Rattle.spi_intern.specs.declared.store.TyPart.TheVariants.{Nonce}
-use Rattle.spi_intern.proofs.Lists.{truths}
 use Rattle.spi_intern.proofs.Meanings.{terms_same, terms_more}
 use Rattle.spi_message.specs.Judging.{Numbered, Stands, StandFor, IsKept}
 use Rattle.spi_message.specs.Asking.{IsEnvironment}

@@ -1,13 +1,14 @@
 -- Typing over shared terms is typing in each environment that the numbers stand for.
 use Rattle.std.proofs.Common.{◌≡◌, ℕ, zero, suc, ◌-◌, ◌<◌, ◌≤◌, Bool, true, false, List, [], ◌∷◌, ◌++◌, Option, Some, None, length, refl, sym, ap, subst, ◌∙◌, arith, ⊎_elim, ◌⊎◌, inl, inr}
 use Rattle.std.specs.Prelude.{slice_get, nat_lt, if◌then◌else◌, ⊤}
-use Rattle.std.proofs.lemmas.Bool.{lt-ltb, le-ltb, eq-eqb, ne_eqb, ltb-true, ltb-false}
+use Rattle.std.proofs.lemmas.Bool.{lt-ltb, le-ltb, ne_eqb, cases_lt}
 use Rattle.spi_term.specs.Term.{Message, bound, name, unit, pair, in_left, in_right, enc, hash, Effect, Ty}
 use Rattle.spi_term.specs.Substitution.{message_map, put, ty_map, ty_put}
 use Rattle.spi_term.specs.Names.{MessageOver}
 use Rattle.spi_term.specs.Lists.{In}
-use Rattle.spi_term.proofs.Terms.{put_closed}
+use Rattle.spi_term.proofs.Terms.{put_closed, put_here}
 use Rattle.spi_term.proofs.Maps.{fixed_ty, joined_ty, each_ty}
+use Rattle.spi_term.proofs.Lists.{get_last, length_more}
 use Rattle.spi_rules.specs.Environment.{Env}
 use Rattle.spi_rules.specs.Messages.{cast_of}
 use Rattle.spi_rules.proofs.Good.{type_over}
@@ -23,14 +24,6 @@ pub typed_stays : (e : Env) (m : Message) (t : Ty) → typed m e t ≡ true → 
 typed_stays e m t h n d = put_closed (length e) n d m (type_over (λ m fs i. no_casts e m fs i) (typed_true m e t h))
 
 -- the last values
-length_push : {A : Type 0} (xs : List A) (x : A) → length (xs ++ x ∷ []) ≡ suc (length xs)
-length_push [] x = refl
-length_push (y ∷ xs) x = ap suc (length_push xs x)
-
-get_last : {A : Type 0} (xs : List A) (x : A) → slice_get (xs ++ x ∷ []) (length xs) ≡ Some x
-get_last [] x = refl
-get_last (y ∷ xs) x = get_last xs x
-
 get_front : {A : Type 0} (xs : List A) (x : A) (i : ℕ) → i < length xs → slice_get (xs ++ x ∷ []) i ≡ slice_get xs i
 get_front [] x i h = absurd (omega arith)
 get_front (y ∷ xs) x zero h = refl
@@ -38,17 +31,10 @@ get_front (y ∷ xs) x (suc i) h = get_front xs x i (omega arith)
 
 last_first : {A : Type 0} (xs : List A) (x : A) → last_but 0 (xs ++ x ∷ []) ≡ Some x
 last_first xs x =
-    (λ i. if nat_lt 0 (length_push xs x i) then slice_get (xs ++ x ∷ []) (length_push xs x i - 1) else None)
+    (λ i. if nat_lt 0 (length_more xs x i) then slice_get (xs ++ x ∷ []) (length_more xs x i - 1) else None)
     ∙ ap (λ b. if b then slice_get (xs ++ x ∷ []) (suc (length xs) - 1) else None) (lt-ltb 0 (suc (length xs)) (omega arith))
     ∙ (let e : suc (length xs) - 1 ≡ length xs = omega arith in ap (slice_get (xs ++ x ∷ [])) e)
     ∙ get_last xs x
-
-by_two : (j n : ℕ) → (j < n) ⊎ (n ≤ j)
-by_two j n = by (nat_lt j n) refl
-  where
-    by : (b : Bool) → nat_lt j n ≡ b → (j < n) ⊎ (n ≤ j)
-    by true e = inl (ltb-true j n e)
-    by false e = inr (ltb-false j n e)
 
 last_within : {A : Type 0} (k : ℕ) (xs : List A) → k < length xs → last_but k xs ≡ slice_get xs (length xs - suc k)
 last_within k xs h = ap (λ b. if b then slice_get xs (length xs - suc k) else None) (lt-ltb k (length xs) h)
@@ -59,9 +45,9 @@ last_beyond k xs h = ap (λ b. if b then slice_get xs (length xs - suc k) else N
 last_more : {A : Type 0} (j : ℕ) (xs : List A) (x : A) → last_but (suc j) (xs ++ x ∷ []) ≡ last_but j xs
 last_more j xs x =
     ⊎_elim
-    (λ h. last_within (suc j) (xs ++ x ∷ []) (omega (arith, length_push xs x)) ∙ (let e : length (xs ++ x ∷ []) - suc (suc j) ≡ length xs - suc j = omega (arith, length_push xs x) in ap (slice_get (xs ++ x ∷ [])) e) ∙ get_front xs x (length xs - suc j) (omega arith) ∙ sym (last_within j xs h))
-    (λ h. last_beyond (suc j) (xs ++ x ∷ []) (omega (arith, length_push xs x)) ∙ sym (last_beyond j xs h))
-    (by_two j (length xs))
+    (λ h. last_within (suc j) (xs ++ x ∷ []) (omega (arith, length_more xs x)) ∙ (let e : length (xs ++ x ∷ []) - suc (suc j) ≡ length xs - suc j = omega (arith, length_more xs x) in ap (slice_get (xs ++ x ∷ [])) e) ∙ get_front xs x (length xs - suc j) (omega arith) ∙ sym (last_within j xs h))
+    (λ h. last_beyond (suc j) (xs ++ x ∷ []) (omega (arith, length_more xs x)) ∙ sym (last_beyond j xs h))
+    (cases_lt j (length xs))
 
 last_in : {A : Type 0} (k : ℕ) (xs : List A) (x : A) → last_but k xs ≡ Some x → (i : ℕ) × (slice_get xs i ≡ Some x)
 last_in k xs x = by (nat_lt k (length xs))
@@ -79,9 +65,6 @@ value_outside vs d i h = ap (λ b. if b then None else last_but (i - d) vs) (le-
 put_bound : (a : Message) (k i : ℕ) → (i ≡ k → ⊥) → put a k (bound i) ≡ bound i
 put_bound a k i h = ap (λ b. if b then a else bound i) (ne_eqb i k h)
 
-put_here : (a : Message) (k : ℕ) → put a k (bound k) ≡ a
-put_here a k = ap (λ b. if b then a else bound k) (eq-eqb k k refl)
-
 -- a value that stays where another message is put
 put_value : (vs : List Message) → AllStay vs → (a : Message) (k i j : ℕ) → (i ≡ k → ⊥) → put a k (or_bound i (last_but j vs)) ≡ or_bound i (last_but j vs)
 put_value vs s a k i j h = by (last_but j vs) refl
@@ -91,7 +74,7 @@ put_value vs s a k i j h = by (last_but j vs) refl
     by (Some v) e = let w = last_in j vs v e in s.at w.0 v w.1 a k
 
 three_ways : (i k : ℕ) → (i < k) ⊎ ((i ≡ k) ⊎ (k < i))
-three_ways i k = ⊎_elim inl (λ h. inr (⊎_elim (λ g. inr g) (λ g. inl (omega arith)) (by_two k i))) (by_two i k)
+three_ways i k = ⊎_elim inl (λ h. inr (⊎_elim (λ g. inr g) (λ g. inl (omega arith)) (cases_lt k i))) (cases_lt i k)
 
 fill_index : (vs : List Message) → AllStay vs → (a : Message) (k i : ℕ) → put a k (or_bound i (value_of vs (suc k) i)) ≡ or_bound i (value_of (vs ++ a ∷ []) k i)
 fill_index vs s a k i =

@@ -2,6 +2,7 @@
 use Rattle.std.proofs.Common.{◌≡◌, ℕ, ◌+◌, Bool, false, List, [], ◌∷◌, ◌++◌, drop, map, Result, Ok, Err, refl, sym, ap, subst, ◌∙◌, codes}
 use Rattle.std.specs.List.{AllByRecursion}
 use Rattle.std.specs.Result.{IsErrAnd}
+use Rattle.std.proofs.lemmas.List.{map-id}
 use Rattle.spi_lex.specs.declared.token.Kind.{Kind}
 use Rattle.spi_lex.specs.declared.token.Kind.TheVariants as K
 use Rattle.spi_lex.specs.declared.token.Mark.TheVariants as mark
@@ -240,9 +241,5 @@ pub further_reads : (v : Bool) (ts : List Token) (i j : ℕ) → AreWordsFit v (
 further_reads v ts i j fit h (Ok r) t = part_reads (comma_are v) ts i fit r.0 r.1 (ended (then_word (then_token (begun v ts i comma_row fit) j h) r.0 r.1 t))
 further_reads v ts i j fit h (Err f) t = part_fails (comma_are v) ts i (λ (w : SWord). w) f (Err f) refl (no_word (then_token (begun v ts i comma_row fit) j h) f t)
 
-map_same : (ws : List SWord) → map (λ (w : SWord). w) ws ≡ ws
-map_same [] = refl
-map_same (w ∷ ws) = ap (λ (l : List SWord). w ∷ l) (map_same ws)
-
 pub further_are : (ws : List SWord) (ts : List Token) (i j : ℕ) → EachAt comma_pieces IsAnyWord (map (λ (w : SWord). w) ws) ts i j → EachAt comma_pieces IsAnyWord ws ts i j
-further_are ws ts i j h = subst (λ (l : List SWord). EachAt comma_pieces IsAnyWord l ts i j) (map_same ws) h
+further_are ws ts i j h = subst (λ (l : List SWord). EachAt comma_pieces IsAnyWord l ts i j) (map-id ws) h

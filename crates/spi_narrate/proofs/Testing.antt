@@ -2,7 +2,7 @@
 use Rattle.std.proofs.Common.{◌≡◌, ◌⊎◌, inl, inr, ℕ, zero, suc, ◌+◌, ◌<◌, ◌≤◌, true, false, List, [], ◌∷◌, ◌++◌, length, map, take, get_or, slice_get, Some, Result, Ok, Err, refl, sym, ap, ◌∙◌, subst, arith}
 use Rattle.std.specs.Result.{IsErrAnd}
 use Rattle.std.specs.Str.{bytes_eq}
-use Rattle.std.proofs.lemmas.List.{take_more, append_assoc, append-nil, length-take-le}
+use Rattle.std.proofs.lemmas.List.{take_more, append_assoc, append-nil, length-take-le, take_all, length-map, map-id}
 use Rattle.std.proofs.lemmas.Slice.Eq.{bytes_eq-Decides}
 use Rattle.spi_lex.specs.declared.token.Token.{Token}
 use Rattle.spi_text.specs.declared.lines.Span.{Span}
@@ -71,20 +71,6 @@ cut_at f [] i x e l = absurd (omega (arith, l))
 cut_at f (y ∷ ys) zero x e l = (map f ys, ap (λ z. f z ∷ map f ys) (sym e))
 cut_at f (y ∷ ys) (suc i) x e l = let h = cut_at f ys i x e (omega (arith, l)) in (h.0, ap (λ (r : List _). f y ∷ r) h.1)
 
-map_same : {A : Type 0} (xs : List A) → map (λ x. x) xs ≡ xs
-map_same [] = refl
-map_same (x ∷ xs) = ap (λ (r : List _). x ∷ r) (map_same xs)
-
-pub all_taken : {A : Type 0} (xs : List A) (i : ℕ) → length xs ≤ i → take i xs ≡ xs
-all_taken [] zero h = refl
-all_taken [] (suc i) h = refl
-all_taken (x ∷ xs) zero h = absurd (omega (arith, h))
-all_taken (x ∷ xs) (suc i) h = ap (λ (r : List _). x ∷ r) (all_taken xs i (omega (arith, h)))
-
-map_length : {A B : Type 0} (f : A → B) (xs : List A) → length (map f xs) ≡ length xs
-map_length f [] = refl
-map_length f (x ∷ xs) = ap suc (map_length f xs)
-
 -- ---- words among others
 
 pub among_in : (xs : List SWord) (i : ℕ) (x w : SWord) → x ≡ get_or xs i x → i < length xs → bytes_eq x.word w.word ≡ true → IsAmong xs w
@@ -120,7 +106,7 @@ shared_many f i all zero (y ∷ ys) x e h = inl (omega (arith, e), let z : y ≡
 shared_many f i all (suc k) (y ∷ ys) x e h = inr ((λ l. absurd (omega (arith, e, l))), shared_many f (i + 1) all k ys x (omega (arith, e)) h)
 
 pub shared_faultless : {A : Type 0} (f : A → Shared) (xs : List A) → length xs ≤ 16 → IsFaultless (shared_items 0 (length xs) (map f xs))
-shared_faultless f xs h = let e = map_length f xs in shared_few 0 (length xs) (map f xs) (omega (arith, h, e))
+shared_faultless f xs h = let e = length-map xs f in shared_few 0 (length xs) (map f xs) (omega (arith, h, e))
 
 pub shared_fault : {A : Type 0} (f : A → Shared) (xs : List A) (x : A) (s : Span) (count : ℕ) → slice_get xs 16 ≡ Some x → s ≡ (f x).span → count ≡ length xs → IsFirstFault (shared_items 0 (length xs) (map f xs)) (faults.NarrationTooLarge s count)
 shared_fault f xs x s count h e c = subst (λ t. IsFirstFault (shared_items 0 (length xs) (map f xs)) (faults.NarrationTooLarge t count)) (sym e)
@@ -160,14 +146,14 @@ first_role : (all : ℕ) (first : SWord) → IsFaultless (declares [] first ∷ 
 first_role all first = ((λ a. a), ((λ l. absurd (omega (arith, l))), tt))
 
 pub roles_faultless : (first : SWord) (more : List SWord) (all i : ℕ) → length more ≤ i → AreNewRoles all first (take i more) → IsFaultless (role_items 0 all [] (first ∷ more))
-roles_faultless first more all i l h = both_faultless (declares [] first ∷ counts 0 8 all first.span ∷ []) (role_items 1 all (first ∷ []) more) (first_role all first) (subst (AreNewRoles all first) (all_taken more i l) h)
+roles_faultless first more all i l h = both_faultless (declares [] first ∷ counts 0 8 all first.span ∷ []) (role_items 1 all (first ∷ []) more) (first_role all first) (subst (AreNewRoles all first) (take_all i more l) h)
 
 pub roles_fault : {V : Type 0} (r : Result V NarrateFault) (f : NarrateFault) (all : ℕ) (first : SWord) (more : List SWord) (i : ℕ) (w : SWord) → w ≡ get_or more i w → i < length more → AreNewRoles all first (take i more)
     → IsErrAnd r (λ e. e ≡ f) → IsFailed f (role_behind all first (take i more) w) → IsTested r (role_items 0 all [] (first ∷ more))
 roles_fault r f all first more i w e l h is g =
     let c = cut_at (λ (x : SWord). x) more i w e l in
     let after = c.0 in
-    let whole : more ≡ take i more ++ w ∷ after = sym (map_same more) ∙ c.1 ∙ ap (λ (r : List SWord). r ++ w ∷ after) (map_same (take i more)) in
+    let whole : more ≡ take i more ++ w ∷ after = sym (map-id more) ∙ c.1 ∙ ap (λ (r : List SWord). r ++ w ∷ after) (map-id (take i more)) in
     let rest : role_items (length (first ∷ take i more)) all (first ∷ take i more) (w ∷ after) ≡ role_behind all first (take i more) w ++ role_items (length (first ∷ take i more) + 1) all ((first ∷ take i more) ++ w ∷ []) after = refl in
     tested_behind r (declares [] first ∷ counts 0 8 all first.span ∷ []) (role_items 1 all (first ∷ []) more) (first_role all first)
     (subst (λ (ws : List SWord). IsTested r (role_items 1 all (first ∷ []) ws)) (sym whole)
@@ -196,7 +182,7 @@ taken_length xs i l = length-take-le i xs (omega (arith, l))
 
 lines_at : {A : Type 0} (f : A → n.Line) (all : ℕ) (roles : List SWord) (xs : List A) (i : ℕ) (ls : List n.Line) → i < length xs → line_items 0 all roles (map f (take i xs) ++ ls) ≡ line_items 0 all roles (map f (take i xs)) ++ line_items i all roles ls
 lines_at f all roles xs i ls l =
-    let few : length (map f (take i xs)) ≡ i = map_length f (take i xs) ∙ taken_length xs i l in
+    let few : length (map f (take i xs)) ≡ i = length-map (take i xs) f ∙ taken_length xs i l in
     let e : 0 + length (map f (take i xs)) ≡ i = omega (arith, few) in
     lines_both 0 all roles (map f (take i xs)) ls ∙ ap (λ (k : ℕ). line_items 0 all roles (map f (take i xs)) ++ line_items k all roles ls) e
 
@@ -206,7 +192,7 @@ lines_more f all roles xs i x e l h g =
     (subst IsFaultless (sym (lines_at f all roles xs i (f x ∷ []) l)) (both_faultless (line_items 0 all roles (map f (take i xs))) (line_items i all roles (f x ∷ [])) h g))
 
 pub lines_faultless : {A : Type 0} (f : A → n.Line) (all : ℕ) (roles : List SWord) (xs : List A) (i : ℕ) → length xs ≤ i → IsFaultless (line_items 0 all roles (map f (take i xs))) → IsFaultless (line_items 0 all roles (map f xs))
-lines_faultless f all roles xs i l h = subst (λ (ys : List _). IsFaultless (line_items 0 all roles (map f ys))) (all_taken xs i l) h
+lines_faultless f all roles xs i l h = subst (λ (ys : List _). IsFaultless (line_items 0 all roles (map f ys))) (take_all i xs l) h
 
 pub lines_fault : {A V : Type 0} (f : A → n.Line) (r : Result V NarrateFault) (fault : NarrateFault) (all : ℕ) (roles : List SWord) (xs : List A) (i : ℕ) (x : A) → x ≡ get_or xs i x → i < length xs → IsFaultless (line_items 0 all roles (map f (take i xs)))
     → IsErrAnd r (λ e. e ≡ fault) → IsFailed fault (line_items i all roles (f x ∷ [])) → IsTested r (line_items 0 all roles (map f xs))
@@ -241,8 +227,8 @@ pub whole : {V : Type 0} (r : Result V NarrateFault) (x : Narration)
 whole r x h =
     let roles = x.first ∷ x.more.items in
     let behind : ℕ → List FaultItem = λ k. role_items 0 (length roles) [] roles ++ line_items 0 k roles (map line_of x.lines.items) in
-    subst (λ (k : ℕ). IsTested r (shared_items 0 k (map shared_of x.shared.items) ++ behind (length (map line_of x.lines.items)))) (sym (map_length shared_of x.shared.items))
-    (subst (λ (k : ℕ). IsTested r (shared_items 0 (length x.shared.items) (map shared_of x.shared.items) ++ behind k)) (sym (map_length line_of x.lines.items)) h)
+    subst (λ (k : ℕ). IsTested r (shared_items 0 k (map shared_of x.shared.items) ++ behind (length (map line_of x.lines.items)))) (sym (length-map x.shared.items shared_of))
+    (subst (λ (k : ℕ). IsTested r (shared_items 0 (length x.shared.items) (map shared_of x.shared.items) ++ behind k)) (sym (length-map x.lines.items line_of)) h)
 
 -- the faults of reading, which no test tells
 abbrev IsOfReading : NarrateFault → Type 0

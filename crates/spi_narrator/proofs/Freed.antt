@@ -1,23 +1,17 @@
 -- The words after `on`, line by line.
-use Rattle.std.proofs.Common.{◌≡◌, ℕ, zero, suc, ◌+◌, ◌<◌, List, [], ◌∷◌, ◌++◌, length, map, take, get_or, slice_get, Some, refl, sym, ap, ◌∙◌, subst, arith}
+use Rattle.std.proofs.Common.{◌≡◌, ℕ, zero, suc, ◌+◌, ◌<◌, List, [], ◌∷◌, ◌++◌, length, map, take, get_or, slice_get, Some, refl, sym, ap, ◌∙◌, subst}
 use Rattle.spi_term.proofs.Lookup.{map_take_more}
+use Rattle.spi_term.proofs.Lists.{some_is}
 use Rattle.spi_text.specs.declared.lines.Span.{Span}
 use Rattle.spi_tree.specs.declared.tree.SWord.{SWord}
 use Rattle.spi_scope.specs.Scope.{Names}
 use Rattle.spi_narrate.specs.Narrations as n
+use Rattle.spi_narrate.proofs.Testing.{cut_at}
 use Rattle.spi_honest.specs.Roles.{HasChannel, HaveChannels}
 use Rattle.spi_narrator.specs.Answers.{line_span, LineIn, IsFirstNotFree}
 use Rattle.spi_narrator.specs.Free.{IsStrange}
 
 -- ---- lists by their items
-
-some_is : {A : Type 0} {x y : A} → Some x ≡ Some y → x ≡ y
-some_is e = cc
-
-cut_at : {A B : Type 0} (f : A → B) (xs : List A) (i : ℕ) (x : A) → x ≡ get_or xs i x → i < length xs → (after : List B) × (map f xs ≡ map f (take i xs) ++ f x ∷ after)
-cut_at f [] i x e l = absurd (omega (arith, l))
-cut_at f (y ∷ ys) zero x e l = (map f ys, ap (λ z. f z ∷ map f ys) (sym e))
-cut_at f (y ∷ ys) (suc i) x e l = let h = cut_at f ys i x e (omega (arith, l)) in (h.0, ap (λ (r : List _). f y ∷ r) h.1)
 
 -- the line with a number
 pub line_in : {A : Type 0} (f : A → n.Line) (xs : List A) (i : ℕ) (x : A) (s : Span) → slice_get xs i ≡ Some x → s ≡ line_span (f x) → LineIn (map f xs) i s

@@ -4,6 +4,7 @@ use Rattle.std.specs.Prelude.{slice_get, Some, ⊤}
 use Rattle.spi_term.specs.Term.{Message, Ty, un, Sends, Stops, Recvs, Serves, Splits, Selects, Decrypts, Checks, Begins, Ends, EndManys, Casts, Freshes, Branches, Pars, Process, leaf, prefix, fork}
 use Rattle.spi_term.specs.Substitution.{ty_map}
 use Rattle.spi_term.specs.Spelling.{Shape, flat, numbered}
+use Rattle.spi_run.proofs.Untrusted.{un_map}
 use Rattle.spi_run.specs.Opponent.{IsUn, IsOpponent}
 use Rattle.spi_opponent.specs.Allowed.{Allowed}
 
@@ -23,29 +24,25 @@ all_both : (xs ys : List Shape) → AllAllowed xs → AllAllowed ys → AllAllow
 all_both [] ys h k = k
 all_both (x ∷ xs) ys h k = (h.0, all_both xs ys h.1 k)
 
--- a map of messages changes no annotation that is Un, and makes none
-un_kept : (f : ℕ → Message → Message) (k : ℕ) (t : Ty) → IsUn t → IsUn (ty_map f k t)
-un_kept f k un h = tt
-un_kept f k _ h = absurd h
-
+-- a map of messages makes no annotation Un
 un_was : (f : ℕ → Message → Message) (k : ℕ) (t : Ty) → IsUn (ty_map f k t) → IsUn t
 un_was f k un h = tt
 un_was f k _ h = absurd h
 
 pub allowed_of : (p : Process) (names : List ℕ) (i k : ℕ) → IsOpponent p → AllAllowed (flat i k (numbered names k p))
 allowed_of (leaf l) names i k h = (tt, tt)
-allowed_of (prefix (Recvs m t) p) names i k h = (un_kept _ 0 t h.0, allowed_of p _ _ _ h.1)
-allowed_of (prefix (Serves m t) p) names i k h = (un_kept _ 0 t h.0, allowed_of p _ _ _ h.1)
-allowed_of (prefix (Decrypts m t n) p) names i k h = (un_kept _ 0 t h.0, allowed_of p _ _ _ h.1)
-allowed_of (prefix (Casts m t) p) names i k h = (un_kept _ 0 t h.0, allowed_of p _ _ _ h.1)
-allowed_of (prefix (Freshes t) p) names i k h = (un_kept _ 0 t h.0, allowed_of p _ _ _ h.1)
-allowed_of (prefix (Splits m t u) p) names i k h = ((un_kept _ 0 t h.0, un_kept _ 1 u h.1), allowed_of p _ _ _ h.2)
-allowed_of (prefix (Selects m t n u) p) names i k h = ((un_kept _ 0 t h.0, un_kept _ 1 u h.1), allowed_of p _ _ _ h.2)
+allowed_of (prefix (Recvs m t) p) names i k h = (un_map _ 0 t h.0, allowed_of p _ _ _ h.1)
+allowed_of (prefix (Serves m t) p) names i k h = (un_map _ 0 t h.0, allowed_of p _ _ _ h.1)
+allowed_of (prefix (Decrypts m t n) p) names i k h = (un_map _ 0 t h.0, allowed_of p _ _ _ h.1)
+allowed_of (prefix (Casts m t) p) names i k h = (un_map _ 0 t h.0, allowed_of p _ _ _ h.1)
+allowed_of (prefix (Freshes t) p) names i k h = (un_map _ 0 t h.0, allowed_of p _ _ _ h.1)
+allowed_of (prefix (Splits m t u) p) names i k h = ((un_map _ 0 t h.0, un_map _ 1 u h.1), allowed_of p _ _ _ h.2)
+allowed_of (prefix (Selects m t n u) p) names i k h = ((un_map _ 0 t h.0, un_map _ 1 u h.1), allowed_of p _ _ _ h.2)
 allowed_of (prefix (Checks m n) p) names i k h = (tt, allowed_of p _ _ _ h)
 allowed_of (prefix (Begins m) p) names i k h = absurd h
 allowed_of (prefix (Ends m) p) names i k h = absurd h
 allowed_of (prefix (EndManys m) p) names i k h = absurd h
-allowed_of (fork (Branches m t u) p q) names i k h = ((un_kept _ 0 t h.0, un_kept _ 0 u h.2), all_both _ _ (allowed_of p _ _ _ h.1) (allowed_of q _ _ _ h.3))
+allowed_of (fork (Branches m t u) p q) names i k h = ((un_map _ 0 t h.0, un_map _ 0 u h.2), all_both _ _ (allowed_of p _ _ _ h.1) (allowed_of q _ _ _ h.3))
 allowed_of (fork Pars p q) names i k h = (tt, all_both _ _ (allowed_of p _ _ _ h.0) (allowed_of q _ _ _ h.1))
 
 pub opponent_of : (p : Process) (names : List ℕ) (i k : ℕ) → AllAllowed (flat i k (numbered names k p)) → IsOpponent p

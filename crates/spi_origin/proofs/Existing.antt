@@ -1,6 +1,7 @@
 -- An atom that is left has an origin.
 use Rattle.std.proofs.Common.{◌≡◌, refl, sym, ap, ◌∙◌, subst, ℕ, zero, suc, ◌+◌, ◌<◌, ◌≤◌, ◌⊎◌, inl, inr, ⊎_elim, max, Bool, true, false, ◌||◌, [], ◌∷◌, ◌++◌, length, Option, Some, None, arith}
-use Rattle.spi_effect.proofs.Made.{minus_difference, greater_is}
+use Rattle.spi_count.proofs.Below.{in_minus}
+use Rattle.spi_effect.proofs.Made.{greater_is}
 use Rattle.spi_effect.specs.Made.{are_many, minus, greater, mentions}
 use Rattle.spi_infer.proofs.Least.{keep_some, after_some, both_some}
 use Rattle.spi_infer.specs.Forms.{leaf_ok, prefix_ok, fork_ok, paid_by, unless_blocked, keep, checked, after_prefix, by_effect, by_effects, both, effect_of}
@@ -9,31 +10,25 @@ use Rattle.spi_message.specs.Forms.{enter, more, on_first, on_rest, cast_effect_
 use Rattle.std.specs.Prelude.{nat_lt}
 use Rattle.std.proofs.lemmas.Bool.{ltb-true, ltb-false, lt-ltb}
 use Rattle.spi_origin.proofs.Chosen.{computed_of, KeepsAim, Chosen, chosen_here, chosen_prefix, chosen_first, chosen_rest}
-use Rattle.spi_origin.proofs.OriginNodes.{some_in, in_some, left_kept, chosen_origin}
+use Rattle.spi_origin.proofs.OriginNodes.{left_kept, chosen_origin}
 use Rattle.spi_origin.specs.Gathering.{all_origins, has_left, adds_by}
 use Rattle.spi_origin.specs.Origins.{IsLeft, IsOrigin, origin_here, origin_below}
 use Rattle.spi_rules.specs.Environment.{Env}
-use Rattle.spi_term.proofs.Counting.{same_atom_refl}
+use Rattle.spi_term.proofs.Counting.{same_atom_refl, count_in, in_count}
 use Rattle.spi_term.proofs.Lists.{in_append, in_cases}
 use Rattle.spi_term.specs.Counts.{count}
 use Rattle.spi_term.specs.Lists.{In}
 use Rattle.spi_term.specs.Term.{Message, name, Atom, ends, checks, many, same_atom, Effect, Prefix, Recvs, Serves, Splits, Selects, Decrypts, Checks, Begins, Ends, EndManys, Casts, Freshes, Fork, Branches, Pars, Process, leaf, prefix, fork, binds, fork_binds, process_size}
 
-in_minus : (a : Atom) (fs gs : Effect) → In a (minus fs gs) → In a fs
-in_minus a fs gs i =
-    let h = in_some a (minus fs gs) i in
-    let d = (minus_difference fs gs).at a in
-    some_in a fs (omega (arith, h, d))
-
 in_greater : (a : Atom) (fs gs : Effect) → In a (greater fs gs) → In a fs ⊎ In a gs
 in_greater a fs gs i =
-    let h = in_some a (greater fs gs) i in
+    let h = in_count a (greater fs gs) i in
     let d = (greater_is fs gs).at a in
     by (nat_lt 0 (count a fs)) refl (omega (arith, h, d))
   where
     by : (b : Bool) → nat_lt 0 (count a fs) ≡ b → 0 < max (count a fs) (count a gs) → In a fs ⊎ In a gs
-    by true e m = inl (some_in a fs (ltb-true 0 (count a fs) e))
-    by false e m = inr (some_in a gs (let z = ltb-false 0 (count a fs) e in omega (arith, z, m)))
+    by true e m = inl (count_in a fs (let z = ltb-true 0 (count a fs) e in omega (arith, z)))
+    by false e m = inr (count_in a gs (let z = ltb-false 0 (count a fs) e in omega (arith, z, m)))
 
 in_unless : (a : Atom) (b : Bool) (fs es : Effect) → unless_blocked b fs ≡ Some es → In a es → In a fs
 in_unless a true fs es e i = absurd (cc e)
@@ -63,7 +58,7 @@ in_after a k paid (Begins m) fs es e i = inr (in_minus a fs (ends m ∷ (many m 
 in_after a k paid (Ends m) fs es e i = one_more a (ends m) fs (some_is a (fs ++ ends m ∷ []) es e i)
 in_after a k paid (EndManys m) fs es e i = one_more a (many m) fs (some_is a (fs ++ many m ∷ []) es e i)
 in_after a k paid (Casts m t) fs es e i =
-    ⊎_elim (λ j. inr j) (λ j. inl (lt-ltb 0 (count a (cast_effect_of t)) (in_some a (cast_effect_of t) j))) (in_append fs (in_unless a (mentions k fs) (fs ++ cast_effect_of t) es e i))
+    ⊎_elim (λ j. inr j) (λ j. inl (lt-ltb 0 (count a (cast_effect_of t)) (let z = in_count a (cast_effect_of t) j in omega (arith, z)))) (in_append fs (in_unless a (mentions k fs) (fs ++ cast_effect_of t) es e i))
 in_after a k paid (Freshes t) fs es e i = inr (in_minus a fs (checks (name k) ∷ []) (in_unless a (mentions k (minus fs (checks (name k) ∷ []))) (minus fs (checks (name k) ∷ [])) es e i))
 
 in_both : (a : Atom) (k : ℕ) (f : Fork) (fs gs es : Effect) → both k f fs gs ≡ Some es → In a es → In a fs ⊎ In a gs
@@ -72,15 +67,15 @@ in_both a k (Branches m t u) fs gs es e i = in_greater a fs gs (in_unless a (men
 
 has_some : (a : Atom) (o : Option Effect) → has_left a o ≡ true → (es : Effect) × (o ≡ Some es) × In a es
 has_some a None h = absurd (cc h)
-has_some a (Some es) h = (es, refl, some_in a es (ltb-true 0 (count a es) h))
+has_some a (Some es) h = (es, refl, count_in a es (let z = ltb-true 0 (count a es) h in omega (arith, z)))
 
 has_of : (a : Atom) (o : Option Effect) (es : Effect) → o ≡ Some es → In a es → has_left a o ≡ true
-has_of a o es e i = ap (has_left a) e ∙ lt-ltb 0 (count a es) (in_some a es i)
+has_of a o es e i = ap (has_left a) e ∙ lt-ltb 0 (count a es) (let z = in_count a es i in omega (arith, z))
 
 none_left : (a : Atom) (b : Bool) (o : Option Effect) → o ≡ keep b (Some []) → has_left a o ≡ true → ⊥
 none_left a true o e h =
     let w : nat_lt 0 (count a []) ≡ true = sym (ap (has_left a) e) ∙ h in
-    elim (some_in a [] (ltb-true 0 (count a []) w)) [ ]
+    elim (count_in a [] (let z = ltb-true 0 (count a []) w in omega (arith, z))) [ ]
 none_left a false o e h = let w : false ≡ true = sym (ap (has_left a) e) ∙ h in absurd (cc w)
 
 abbrev Some_in : Atom → Env → Process → Type 0

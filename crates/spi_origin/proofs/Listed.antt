@@ -1,5 +1,5 @@
 -- The lists that are gathered have what their contracts say.
-use Rattle.std.proofs.Common.{◌≡◌, sym, subst, ℕ, List, [], length, arith, Result, Ok, Err, IfOk}
+use Rattle.std.proofs.Common.{◌≡◌, sym, subst, ℕ, List, [], length, arith}
 use Rattle.spi_origin.proofs.Blocking.{chosen_blocks, blocks_chosen}
 use Rattle.spi_origin.proofs.OriginNodes.{chosen_origin, origin_chosen}
 use Rattle.spi_origin.proofs.Chosen.{Chosen, listed, ascends}
@@ -49,7 +49,3 @@ noted_grows s r noted new k p env f g h = record {
   keyed = g.are;
   each = subst (AreFormsNoted r (with_keys r new.keys) (spelled k p) (scan 0 env [] (spelled k p))) (sym f) (are_noted_keep g h.each);
 }
-
-pub if_ok : {X E : Type 0} (r : Result X E) {P Q : X → Type 0} → ((x : X) → P x → Q x) → IfOk r P → IfOk r Q
-if_ok (Ok x) f h = f x h
-if_ok (Err e) f h = h

@@ -1,12 +1,13 @@
 -- The origins of an atom are the nodes that are gathered for it.
-use Rattle.std.proofs.Common.{◌≡◌, refl, sym, ap, subst, ℕ, suc, ◌+◌, ◌<◌, true, [], length, Option, Some, None, arith, append-nil}
+use Rattle.std.proofs.Common.{◌≡◌, refl, sym, ap, subst, ℕ, suc, ◌+◌, true, [], length, Option, Some, None, arith, append-nil}
 use Rattle.std.proofs.lemmas.Bool.{and_parts, and_from, ltb-true, lt-ltb}
 use Rattle.std.specs.Prelude.{is_some, slice_get}
 use Rattle.spi_infer.proofs.Least.{sound, nothing_paid}
 use Rattle.spi_infer.proofs.Located.{over_reached}
-use Rattle.spi_infer.proofs.Nodes.{inside, inside_first, inside_rest, two_more}
+use Rattle.spi_infer.proofs.Nodes.{inside, inside_first, inside_rest, two_more, one_more}
 use Rattle.spi_infer.proofs.Reach.{reach_root, reach_prefix, reach_first, reach_rest}
 use Rattle.spi_infer.specs.Forms.{paid_by}
+use Rattle.spi_message.proofs.Deciding.{nonce_in_some}
 use Rattle.spi_message.specs.Forms.{cast_effect_of}
 use Rattle.spi_message.specs.Tests.{nonce_in, nonce_of}
 use Rattle.spi_origin.proofs.Chosen.{computed_of, is_own, KeepsAim, Chosen, chosen_here, chosen_prefix, chosen_first, chosen_rest}
@@ -17,19 +18,13 @@ use Rattle.spi_rules.proofs.Paying.{has_pays}
 use Rattle.spi_rules.specs.Blocking.{Child, child_recv, child_serve, child_split, child_select, child_left, child_right, child_decrypt, child_check, child_begin, child_end, child_end_many, child_cast, child_fresh, child_first, child_rest}
 use Rattle.spi_rules.specs.Environment.{Env}
 use Rattle.spi_rules.specs.Processes.{IsNonce, nonce_name, nonce_cast}
-use Rattle.spi_term.proofs.Counting.{same_atom_true, same_atom_refl, in_tally, tally_in, count_tally}
+use Rattle.spi_term.proofs.Counting.{same_atom_true, same_atom_refl, count_in, in_count}
 use Rattle.spi_term.proofs.Lists.{get_at, at_get}
-use Rattle.spi_term.specs.Counts.{count, tally}
+use Rattle.spi_term.specs.Counts.{count}
 use Rattle.spi_term.specs.Lists.{In}
 use Rattle.spi_term.specs.Names.{ProcessOver}
 use Rattle.spi_term.specs.Substitution.{ty_put}
 use Rattle.spi_term.specs.Term.{Message, name, Atom, ends, checks, many, same_atom, Effect, Ty, nonce, Prefix, Recvs, Serves, Splits, Selects, Decrypts, Checks, Begins, Ends, EndManys, Casts, Freshes, Branches, Pars, Process, leaf, prefix, fork, process_size}
-
-pub some_in : (a : Atom) (es : Effect) → 0 < count a es → In a es
-some_in a es h = tally_in a es ((count_tally a (tally a es)).0 (omega (arith, h)))
-
-pub in_some : (a : Atom) (es : Effect) → In a es → 0 < count a es
-in_some a es i = let h = (count_tally a (tally a es)).1 (in_tally i) in omega (arith, h)
 
 -- the atom is left
 left_as : (a : Atom) (e : Env) (p : Process) (o : Option Effect) → ProcessOver (length e) p → computed_of e p ≡ o → has_left a o ≡ true → IsLeft a e p
@@ -49,13 +44,9 @@ pub left_kept : (a : Atom) (e : Env) (p : Process) → IsLeft a e p → KeepsAim
 left_kept a e p l = left_has a e p (computed_of e p) refl l
 
 -- what a form adds
-nonce_some : (o : Option Ty) (es : Effect) → nonce_in o ≡ Some es → o ≡ Some (nonce es)
-nonce_some (Some (nonce fs)) es h = let z : fs ≡ es = cc h in ap (λ fs. Some (nonce fs)) z
-nonce_some _ es h = absurd (cc h)
-
 is_nonce : (e : Env) (n : Message) (o : Option Effect) → nonce_of e n ≡ o → is_some o ≡ true → (fs : Effect) × IsNonce [] e n fs
 is_nonce e n None f h = absurd (cc h)
-is_nonce e (name x) (Some fs) f h = (fs, nonce_name (get_at e x (nonce_some (slice_get e x) fs f)))
+is_nonce e (name x) (Some fs) f h = (fs, nonce_name (get_at e x (nonce_in_some (slice_get e x) fs f)))
 is_nonce e _ (Some fs) f h = absurd (cc f)
 
 nonce_is : {e : Env} {n : Message} {fs : Effect} → IsNonce [] e n fs → is_some (nonce_of e n) ≡ true
@@ -82,7 +73,7 @@ by_adds e (Checks m n) p a h =
 by_adds e (Begins m) p a h = absurd (cc h)
 by_adds e (Ends m) p a h = adds_same (same_atom_true a (ends m) h) adds_end
 by_adds e (EndManys m) p a h = adds_same (same_atom_true a (many m) h) adds_end_many
-by_adds e (Casts m t) p a h = cast_adds e m t p a (some_in a (cast_effect_of t) (ltb-true 0 (count a (cast_effect_of t)) h))
+by_adds e (Casts m t) p a h = cast_adds e m t p a (count_in a (cast_effect_of t) (let z = ltb-true 0 (count a (cast_effect_of t)) h in omega (arith, z)))
 by_adds e (Freshes t) p a h = absurd (cc h)
 
 own_adds : (a : Atom) (e : Env) (p : Process) → is_own (all_origins a) e p ≡ true → AddsToEffect e p a
@@ -94,7 +85,7 @@ adds_own : (a : Atom) (e : Env) (p : Process) → AddsToEffect e p a → is_own 
 adds_own _ e _ (adds_check {m = m} {n = n} i) = and_from (is_some (nonce_of e n)) (same_atom (checks m) (checks m)) (nonce_is i) (same_atom_refl (checks m))
 adds_own _ e _ (adds_end {m = m}) = same_atom_refl (ends m)
 adds_own _ e _ (adds_end_many {m = m}) = same_atom_refl (many m)
-adds_own a e _ (adds_cast {fs = fs} i) = lt-ltb 0 (count a fs) (in_some a fs i)
+adds_own a e _ (adds_cast {fs = fs} i) = lt-ltb 0 (count a fs) (let z = in_count a fs i in omega (arith, z))
 
 -- the way down
 child_origin : {a : Atom} {e e1 e2 : Env} {p p1 : Process} {i j n : ℕ} → n ≡ i + j → IsLeft a e p → Child e p i e2 p1 → e1 ≡ e2 → IsOrigin a e1 p1 j → IsOrigin a e p n
@@ -122,9 +113,6 @@ module _ (a : Atom) where
 
   at_env : {e e1 : Env} {p : Process} {i : ℕ} → e ≡ e1 → Is e p i → Is e1 p i
   at_env {p = p} {i = i} f c = subst (λ e. Is e p i) f c
-
-  one_more : (j : ℕ) → suc j ≡ 1 + j
-  one_more j = omega arith
 
   chosen_below : {e e1 : Env} {p p1 : Process} {i j : ℕ} → Child e p i e1 p1 → KeepsAim (all_origins a) e p → Is e1 p1 j → Is e p (i + j)
   chosen_below {j = j} (child_recv {m = m} {t = t}) k c = at_number (one_more j) (chosen_prefix {s = Recvs m t} k c)

@@ -8,7 +8,7 @@ use Rattle.spi_lex.specs.declared.token.Kind.{Kind}
 use Rattle.spi_parse.specs.Tokens.{Tok, State}
 use Rattle.spi_parse.specs.Table.{Sym, Tree, Trees, TableMove, eat, look, may_look, fail, stay, skip, deep_here, delta, at_end}
 use Rattle.spi_parse.specs.Reading.{◌>>=◌, Out, Reader, limited, told, pass, may_pass, may_lead, leads_deep, read_all, with_next, go_on, or_end, reads_step, read_within, read}
-use Rattle.spi_parse.proofs.Readers.{at, bind_ok, ok_is, pass_ok, NoLonger, within_no_longer, all_no_longer, moves_no_longer, step_no_longer, read_enough, may_lead_ok, KeepsState, moves_keep, step_keeps, within_keeps}
+use Rattle.spi_parse.proofs.Readers.{at, bind_ok, ok_is, pass_ok, NoLonger, within_no_longer, all_no_longer, moves_no_longer, step_no_longer, read_enough, may_lead_ok, KeepsState, moves_keep, step_keeps, within_keeps, none_ends}
 
 abbrev pub left_of : Fault → ℕ
 left_of (Syntax n) = n
@@ -134,10 +134,6 @@ pass_flag : {X : Type 0} (f : Bool) (n : ℕ) (go : Out X) (y : X × State) → 
 pass_flag true n go y h z = cc
 pass_flag false n go y h z = cc
 
-no_end : {X : Type 0} (o : Option X) (s : State) (x : X × State) → o ≡ None → or_end o s ≡ Ok x → ⊥
-no_end None s x n e = cc
-no_end (Some y) s x n e = cc
-
 module _ (table : TableFlags) where
   flags_at : (rt : Reader) {a : Sym} (mv : TableMove a false) (ss : List Span) (e : ℕ) (u : Tok) (us : List Tok) (y : Tree a × State) → Flags mv → go_on told rt mv true ss (at e (u ∷ us)) ≡ Ok y → u.deep ≡ false → ⊥
   flags_at rt fail ss e u us y f h z = cc
@@ -148,7 +144,7 @@ module _ (table : TableFlags) where
   flags_at rt (skip x) ss e u us y f h z = f
 
   step_flags : (rt : Reader) (a : Sym) (e : ℕ) (us : List Tok) (y : Tree a × State) → deep_here a ≡ true → reads_step told rt a (at e us) ≡ Ok y → NoFlag us → ⊥
-  step_flags rt a e [] y d h n = no_end (at_end a) (at e []) y (table.ends a d) h
+  step_flags rt a e [] y d h n = none_ends (at_end a) (at e []) y (table.ends a d) h
   step_flags rt a e (u ∷ us) y d h n =
       flags_at rt (delta a u.kind) [] e u us y (table.moves a u.kind d) (subst (λ (b : Bool). go_on told rt (delta a u.kind) b [] (at e (u ∷ us)) ≡ Ok y) d h) n.0
 

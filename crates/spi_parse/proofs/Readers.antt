@@ -351,7 +351,7 @@ pub record TakesSome (a : Sym) : Type 0 where
   pub ends : at_end a ≡ None
   pub moves : (k : Kind) → TakesToken (delta a k)
 
-none_ends : {X : Type 0} (o : Option X) (s : State) (x : X × State) → o ≡ None → or_end o s ≡ Ok x → ⊥
+pub none_ends : {X : Type 0} (o : Option X) (s : State) (x : X × State) → o ≡ None → or_end o s ≡ Ok x → ⊥
 none_ends None s x n e = cc
 none_ends (Some y) s x n e = cc
 

@@ -24,7 +24,7 @@ abbrev pub plain_tokens : List Tok → List (Kind × Bool)
 plain_tokens [] = []
 plain_tokens (t ∷ ts) = (t.kind, false) ∷ plain_tokens ts
 
-plain_append : (a b : List Tok) (c : List (Kind × Bool)) → plain_tokens (a ++ b) ++ c ≡ plain_tokens a ++ (plain_tokens b ++ c)
+pub plain_append : (a b : List Tok) (c : List (Kind × Bool)) → plain_tokens (a ++ b) ++ c ≡ plain_tokens a ++ (plain_tokens b ++ c)
 plain_append [] b c = refl
 plain_append (t ∷ a) b c = ap (λ (l : List (Kind × Bool)). (t.kind, false) ∷ l) (plain_append a b c)
 

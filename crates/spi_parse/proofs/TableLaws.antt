@@ -2,8 +2,6 @@
 use Rattle.std.proofs.Common.{◌≡◌, ℕ, zero, suc, ◌+◌, Bool, true, false, cond, eqb, ◌==◌, List, [], ◌∷◌, Option, Some, None, codes, refl, sym, ap, ◌⊎◌, inl, inr}
 use Rattle.std.specs.Prelude.{nat_lt}
 use Rattle.std.proofs.lemmas.Bool.{eqb-true}
-use Rattle.std.proofs.lemmas.Slice.Eq.{bytes_eq-Decides}
-use Rattle.std.specs.Str.{bytes_eq}
 use Rattle.spi_text.specs.declared.lines.Span.{Span}
 use Rattle.spi_lex.specs.declared.token.Kind.{Kind}
 use Rattle.spi_lex.specs.declared.token.Kind.TheVariants as K
@@ -11,6 +9,7 @@ use Rattle.spi_lex.specs.declared.token.Reserved.{Reserved}
 use Rattle.spi_lex.specs.declared.token.Reserved.TheVariants as word
 use Rattle.spi_lex.specs.declared.token.Mark.{Mark}
 use Rattle.spi_lex.specs.declared.token.Mark.TheVariants as mark
+use Rattle.spi_lex.proofs.Lexed.{same_bytes}
 use Rattle.spi_tree.specs.declared.tree.SWord.{SWord}
 use Rattle.spi_tree.specs.Trees as t
 use Rattle.spi_tree.specs.Pieces.{Piece, opens, cell, closes, message_limit, derivation_limit, in_seq, at_level, proc_pieces, steps_pieces}
@@ -20,9 +19,6 @@ use Rattle.spi_parse.specs.Table.{one, last, Sym, the_mark, the_reserved, the_wo
 use Rattle.spi_parse.proofs.Spell.{spell, IsFieldItem, AreParts, AreMoreParts, Formed}
 use Rattle.spi_parse.proofs.Sound.{IsMoveSpelled, word_front, MoveOk, TableOk}
 use Rattle.spi_parse.proofs.Numbers.{same_mark, same_reserved}
-
-bytes_eq-true : (xs ys : List ℕ) → bytes_eq xs ys ≡ true → xs ≡ ys
-bytes_eq-true xs ys e = (bytes_eq-Decides xs ys).0 e
 
 mark_case : (m found : Mark) (s : Span) (b : Bool) → eqb (mark_number found) (mark_number m) ≡ b → MoveOk {a = the_mark m} {ate = false} (cond b (eat [] (λ ss to xs. tt)) fail) false [] s.from (λ q. q) (K.Mark found) s
 mark_case m found s false e = tt
@@ -107,14 +103,14 @@ out_case v n s to a b (Some p) ha hb h = ((ha, hb, h), (1, 1, λ r. refl))
 
 item_step_ok : (w : List ℕ) (s : Span) (a b : Bool) → is_act w ≡ a → is_talk w ≡ b
     → MoveOk {a = steps_item} {ate = false} (cond a (eat (act_rest ∷ []) (λ ss to xs. one (act_from ss xs.0))) (cond b (eat (talk_rest ∷ []) (λ ss to xs. one (talk_from ss xs.0))) (skip (last tt)))) false [] s.from (λ q. q) (K.Word w) s
-item_step_ok w s true b e f = let same = bytes_eq-true w (codes "act") e in (0, λ to xs h. (tt, (1, 0, λ r. ap (λ (z : List ℕ). opens s.from ∷ cell (K.Word z) false ∷ spell act_rest xs.0 r) (sym same))))
-item_step_ok w s false true e f = let same = bytes_eq-true w (codes "talk") f in (0, λ to xs h. (tt, (1, 0, λ r. ap (λ (z : List ℕ). opens s.from ∷ cell (K.Word z) false ∷ spell talk_rest xs.0 r) (sym same))))
+item_step_ok w s true b e f = let same = same_bytes w (codes "act") e in (0, λ to xs h. (tt, (1, 0, λ r. ap (λ (z : List ℕ). opens s.from ∷ cell (K.Word z) false ∷ spell act_rest xs.0 r) (sym same))))
+item_step_ok w s false true e f = let same = same_bytes w (codes "talk") f in (0, λ to xs h. (tt, (1, 0, λ r. ap (λ (z : List ℕ). opens s.from ∷ cell (K.Word z) false ∷ spell talk_rest xs.0 r) (sym same))))
 item_step_ok w s false false e f = (tt, λ r. refl)
 
 more_steps_ok : (w : List ℕ) (s : Span) (a b : Bool) → is_act w ≡ a → is_talk w ≡ b
     → MoveOk {a = steps} {ate = false} (cond a (eat (act_rest ∷ steps ∷ []) (λ ss to xs. (act_from ss xs.0 ∷ xs.1.0.0, xs.1.0.1))) (cond b (eat (talk_rest ∷ steps ∷ []) (λ ss to xs. (talk_from ss xs.0 ∷ xs.1.0.0, xs.1.0.1))) (skip ([], tt)))) false [] s.from (λ q. q) (K.Word w) s
-more_steps_ok w s true b e f = let same = bytes_eq-true w (codes "act") e in (0, λ to xs h. (tt, (1, 0, λ r. ap (λ (z : List ℕ). opens s.from ∷ cell (K.Word z) false ∷ spell act_rest xs.0 (spell steps xs.1.0 r)) (sym same))))
-more_steps_ok w s false true e f = let same = bytes_eq-true w (codes "talk") f in (0, λ to xs h. (tt, (1, 0, λ r. ap (λ (z : List ℕ). opens s.from ∷ cell (K.Word z) false ∷ spell talk_rest xs.0 (spell steps xs.1.0 r)) (sym same))))
+more_steps_ok w s true b e f = let same = same_bytes w (codes "act") e in (0, λ to xs h. (tt, (1, 0, λ r. ap (λ (z : List ℕ). opens s.from ∷ cell (K.Word z) false ∷ spell act_rest xs.0 (spell steps xs.1.0 r)) (sym same))))
+more_steps_ok w s false true e f = let same = same_bytes w (codes "talk") f in (0, λ to xs h. (tt, (1, 0, λ r. ap (λ (z : List ℕ). opens s.from ∷ cell (K.Word z) false ∷ spell talk_rest xs.0 (spell steps xs.1.0 r)) (sym same))))
 more_steps_ok w s false false e f = (tt, λ r. refl)
 
 rule_ok : (v : Bool) (n : ℕ) (w : List ℕ) (s : Span) (a : Option ℕ) (b : Bool) → arity_of v w ≡ a → writes_effect w ≡ b → MoveOk (rule_move v n w a b) (nat_lt derivation_limit n) [] s.from (λ q. q) (K.Word w) s
@@ -131,7 +127,7 @@ rule_ok v n w s (Some (suc (suc k))) true e f = tt
 file_case : (w : List ℕ) (s : Span) (b : Bool) → is_version_word w ≡ b
     → MoveOk {a = file} {ate = false} (cond b (eat (the_two ∷ the_mark mark.Semicolon ∷ body true ∷ []) (λ ss to xs. file_from 2 (over ss to) xs.1.1.0)) fail) false [] s.from (λ q. q) (K.Word w) s
 file_case w s false e = tt
-file_case w s true e = let same = bytes_eq-true w (codes "version") e in
+file_case w s true e = let same = same_bytes w (codes "version") e in
     (0, λ to xs h. (record { version = inr refl; body = h.1.1.0 }, (1, 1, λ r. ap (λ (z : List ℕ). opens s.from ∷ cell (K.Word z) false ∷ spell the_two tt (spell (the_mark mark.Semicolon) tt (spell (body true) xs.1.1.0 (closes to ∷ r)))) (sym same))))
 
 moves_ok : (a : Sym) (k : Kind) (s : Span) → MoveOk (delta a k) (deep_here a) [] s.from (λ q. q) k s

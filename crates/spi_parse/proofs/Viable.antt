@@ -11,7 +11,7 @@ use Rattle.spi_parse.specs.Reading.{◌>>=◌, Out, Reader, limited, pass, may_p
 use Rattle.spi_tree.specs.Pieces.{Piece, cell, cells}
 use Rattle.spi_parse.proofs.Readers.{at}
 use Rattle.spi_parse.proofs.Spell.{spell, spell_all, Formed, FormedAll}
-use Rattle.spi_parse.proofs.Sound.{plain_tokens, FrontOfMove, closed, word_front, Builds, MoveOk, TableOk, IsSound, Eaten, lays_here, lays_cell, lays_token, lays_word, cells_opened, cells_closed, eaten_more, within_sound}
+use Rattle.spi_parse.proofs.Sound.{plain_tokens, plain_append, FrontOfMove, closed, word_front, Builds, MoveOk, TableOk, IsSound, Eaten, lays_here, lays_cell, lays_token, lays_word, cells_opened, cells_closed, eaten_more, within_sound}
 use Rattle.spi_tree.specs.Formed.{IsWordFit}
 
 -- the words among tokens that aren't given are Words in both versions
@@ -25,16 +25,12 @@ abbrev pub ReachesFault : List Tok → Fault → List (Kind × Bool) → Type 0 
 ReachesFault ts (Syntax n) cs q = (pre : List Tok) × (r : List Tok) × (c : List (Kind × Bool)) × (ts ≡ pre ++ r) × (length r ≡ n) × (cs ≡ plain_tokens pre ++ c) × (q → AreSpare c)
 ReachesFault ts (TooDeep n) cs q = (pre : List Tok) × (t : Tok) × (r : List Tok) × (c : List (Kind × Bool)) × (ts ≡ pre ++ t ∷ r) × (suc (length r) ≡ n) × (cs ≡ plain_tokens pre ++ (t.kind, true) ∷ c) × (q → AreSpare c)
 
-plain_on : (a b : List Tok) (c : List (Kind × Bool)) → plain_tokens (a ++ b) ++ c ≡ plain_tokens a ++ (plain_tokens b ++ c)
-plain_on [] b c = refl
-plain_on (t ∷ a) b c = ap (λ (l : List (Kind × Bool)). (t.kind, false) ∷ l) (plain_on a b c)
-
 -- behind more tokens
 later : (pre ts ts' : List Tok) (d : Fault) (cs cs' : List (Kind × Bool)) (q q' : Type 0) → ts ≡ pre ++ ts' → cs ≡ plain_tokens pre ++ cs' → (q → q') → ReachesFault ts' d cs' q' → ReachesFault ts d cs q
 later pre ts ts' (Syntax n) cs cs' q q' e k f r =
-    (pre ++ r.0, r.1, r.2, e ∙ ap (λ (l : List Tok). pre ++ l) r.3 ∙ sym (append_assoc pre r.0 r.1), r.4, k ∙ ap (λ (l : List (Kind × Bool)). plain_tokens pre ++ l) r.5 ∙ sym (plain_on pre r.0 r.2), λ h. r.6 (f h))
+    (pre ++ r.0, r.1, r.2, e ∙ ap (λ (l : List Tok). pre ++ l) r.3 ∙ sym (append_assoc pre r.0 r.1), r.4, k ∙ ap (λ (l : List (Kind × Bool)). plain_tokens pre ++ l) r.5 ∙ sym (plain_append pre r.0 r.2), λ h. r.6 (f h))
 later pre ts ts' (TooDeep n) cs cs' q q' e k f r =
-    (pre ++ r.0, r.1, r.2, r.3, e ∙ ap (λ (l : List Tok). pre ++ l) r.4 ∙ sym (append_assoc pre r.0 (r.1 ∷ r.2)), r.5, k ∙ ap (λ (l : List (Kind × Bool)). plain_tokens pre ++ l) r.6 ∙ sym (plain_on pre r.0 ((r.1.kind, true) ∷ r.3)), λ h. r.7 (f h))
+    (pre ++ r.0, r.1, r.2, r.3, e ∙ ap (λ (l : List Tok). pre ++ l) r.4 ∙ sym (append_assoc pre r.0 (r.1 ∷ r.2)), r.5, k ∙ ap (λ (l : List (Kind × Bool)). plain_tokens pre ++ l) r.6 ∙ sym (plain_append pre r.0 ((r.1.kind, true) ∷ r.3)), λ h. r.7 (f h))
 
 -- spare cells behind one part are so behind another where the cells are equal
 spare_as : (cs cs' : List (Kind × Bool)) → cs ≡ cs' → AreSpare cs → AreSpare cs'

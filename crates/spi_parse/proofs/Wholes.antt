@@ -54,7 +54,7 @@ spells_of left e ps ts h =
     subst (λ (l : List Token). Spells left e ps l) (untok_tok ts)
     (subst (λ (l : List Token). Spells l e ps (map untok (map tok ts))) (untok_tok left) h)
 
-kinds_count : (ts : List Token) → length (kinds_of ts) ≡ length ts
+pub kinds_count : (ts : List Token) → length (kinds_of ts) ≡ length ts
 kinds_count ts = length-map ts (λ (t : Token). t.kind)
 
 -- ---- any kind of part

@@ -9,15 +9,16 @@ use Rattle.spi_lex.specs.declared.token.Mark.TheVariants as mark
 use Rattle.spi_lex.specs.Words.{version_1, word_bytes, word_of}
 use Rattle.spi_lex.specs.Lexing.{is_version_2}
 use Rattle.spi_tree.specs.Trees as t
-use Rattle.spi_tree.specs.Pieces.{Piece, kinds_in, decls_pieces, a_reserved, file_pieces, proc_pieces, at_level, version_pieces, opponent_pieces, schedule_pieces, derivation_pieces, ends}
+use Rattle.spi_tree.specs.Pieces.{kinds_in, decls_pieces, a_reserved, file_pieces, proc_pieces, at_level, version_pieces, opponent_pieces, schedule_pieces, derivation_pieces, ends}
 use Rattle.spi_tree.specs.Formed.{IsWordFit, AreWordsFit, is_later, IsDeriv, AreDerivs, IsDerivation}
 use Rattle.spi_parse.specs.Formed.{HasRules, HaveRules, IsFormedDerived, IsFile}
 use Rattle.spi_parse.proofs.Spell as s
 use Rattle.spi_parse.proofs.Viable.{AreSpare}
 use Rattle.spi_parse.proofs.ExactLaws.{firsts}
 use Rattle.spi_parse.proofs.LiveLaws.{version_fit}
+use Rattle.spi_parse.proofs.Versions.{begins_reserved, reserved_first}
 
-fewer_words : (l more : List Reserved) (name : List ℕ) → word_of (l ++ more) name ≡ None → word_of l name ≡ None
+pub fewer_words : (l more : List Reserved) (name : List ℕ) → word_of (l ++ more) name ≡ None → word_of l name ≡ None
 fewer_words [] more name h = refl
 fewer_words (w ∷ l) more name h = go (λ k. fewer_words l more name k) (bytes_eq (word_bytes w) name) h
   where
@@ -57,17 +58,6 @@ made_fit v ks pre rest c tokens fit split is spare =
 
 version_tokens : (l : List Kind) → is_version_2 (K.Word (codes "version") ∷ K.Number 2 ∷ K.Mark mark.Semicolon ∷ l) ≡ true
 version_tokens l = refl
-
-reserved_first : (w : Reserved) (l : List Kind) → is_version_2 (K.Reserved w ∷ l) ≡ false
-reserved_first w [] = refl
-reserved_first w (b ∷ []) = refl
-reserved_first w (b ∷ c ∷ l) = refl
-
--- the tokens of a file of version 1 begin with a reserved word
-begins_reserved : (ds : List t.Declared) (q : List Piece) → (w : Reserved) × (l : List Kind) × (kinds_in (decls_pieces ds (a_reserved word.Process q)) ≡ K.Reserved w ∷ l)
-begins_reserved [] q = (word.Process, kinds_in q, refl)
-begins_reserved (t.free s w ws ∷ ds) q = (word.Free, _, refl)
-begins_reserved (t.abbreviated s w a ∷ ds) q = (word.TypeWord, _, refl)
 
 first_front : (w : Reserved) (l ks pre rest : List Kind) (c : List Kind) → K.Reserved w ∷ l ≡ pre ++ c → ks ≡ pre ++ rest → AreWordsFit (is_version_2 ks) ks → AreWordsFit false pre
 first_front w l ks [] rest c e split fit = tt

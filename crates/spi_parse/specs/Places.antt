@@ -59,7 +59,7 @@ parts_by _ = λ ss s. Err (Syntax 0)
 abbrev pub tuple_form : (v : Bool) (d : Bool) (n : ℕ) → List Span → State → Out (Tree (msg v d n))
 tuple_form v d n =
     parts (msg v d n) (msg v d (n + 1) ∷ the_mark mark.Comma ∷ msg v d (n + 1) ∷ msgs v d (n + 1) ∷ [])
-    (λ ss to xs. t.tuple (over ss to) xs.0 xs.1.1.0 (t.msgs_of_list xs.1.1.1.0.0))
+    (λ ss to (a, (comma, (b, ((more, close), rest)))). t.tuple (over ss to) a b (t.msgs_of_list more))
 
 abbrev pub enc_form : (v : Bool) (d : Bool) (n : ℕ) → List Span → State → Out (Tree (msg v d n))
 enc_form v d n = parts_by (delta (msg v d n) (K.Mark mark.BraceOpen))

@@ -2,25 +2,13 @@
 use Rattle.std.proofs.Common.{◌≡◌, ◌⊎◌, inl, inr, ⊎_elim, ℕ, zero, suc, ◌+◌, ◌<◌, List, [], ◌∷◌, ◌++◌, Option, Some, remove, slice_get, slice_set, eqb, if◌then◌else◌, refl, ap, sym, ◌∙◌, subst, arith, eq-eqb}
 use Rattle.std.proofs.lemmas.Bool.{eqb-true, false_from_ne_true}
 use Rattle.spi_term.specs.Lists.{At, at_first, at_later, In, in_first, in_later}
-use Rattle.spi_term.proofs.Lists.{in_cases, in_append}
+use Rattle.spi_term.proofs.Lists.{in_cases, in_append, in_left, in_right, in_none}
 use Rattle.spi_replay.specs.Stepping.{Pooled}
 use Rattle.spi_play.specs.declared.player.Pick.{Pick}
 use Rattle.spi_play.specs.declared.player.Pick.TheVariants.{Take, Leave}
 use Rattle.spi_play.specs.Way.{Seen}
 use Rattle.spi_play.specs.Play.{Seat, PlayState, Course, TurnOf, Picks, AsksSeat, DoesTurn, TakesTurn, Plays, seats_from, start}
 use Rattle.spi_play.specs.Fitting.{turns_of, FitsTurns, EndInLeave, AreInOrder, TurnsFit}
-
-nothing_in : {A : Type 0} {x : A} → In x [] → ⊥
-nothing_in i = elim i [ ]
-
-in_left : {A : Type 0} {x : A} (xs ys : List A) → In x xs → In x (xs ++ ys)
-in_left [] ys i = absurd (nothing_in i)
-in_left {A = A} {x = x} (y ∷ xs) ys i =
-    ⊎_elim (λ e. let P : A → Type 0 = λ z. In z (y ∷ xs ++ ys) in subst P (sym e) in_first) (λ j. in_later (in_left xs ys j)) (in_cases i)
-
-in_right : {A : Type 0} {x : A} (xs : List A) {ys : List A} → In x ys → In x (xs ++ ys)
-in_right [] i = i
-in_right (y ∷ xs) i = in_later (in_right xs i)
 
 -- a list about the place of one of its seats
 record Split (seats : List Seat) (place : ℕ) (seat : Seat) : Type 0 where
@@ -78,7 +66,7 @@ record Between (pre post : List Seat) (who : ℕ) : Type 0 where
   after : (y : Seat) → In y post → who < y.who
 
 between : (pre : List Seat) (x : Seat) (post : List Seat) → AreInOrder (pre ++ x ∷ post) → Between pre post x.who
-between [] x post o = record { before = λ y i. absurd (nothing_in i); after = o.0 }
+between [] x post o = record { before = λ y i. absurd (in_none i); after = o.0 }
 between (z ∷ pre) x post o =
     let r = between pre x post o.1 in
     record {
@@ -91,14 +79,14 @@ order_put [] x y post e o = ((λ z i. let h = o.0 z i in omega (arith, e, h)), o
 order_put (z ∷ pre) x y post e o =
     let first : z.who < y.who = let h = o.0 x (in_right pre in_first) in omega (arith, e, h) in
     let P : Seat → Type 0 = λ w. z.who < w.who in (
-      (λ w i. ⊎_elim (λ j. o.0 w (in_left pre (x ∷ post) j)) (λ j. ⊎_elim (λ f. subst P (sym f) first) (λ k. o.0 w (in_right pre (in_later k))) (in_cases j)) (in_append pre i)),
+      (λ w i. ⊎_elim (λ j. o.0 w (in_left {xs = pre} (x ∷ post) j)) (λ j. ⊎_elim (λ f. subst P (sym f) first) (λ k. o.0 w (in_right pre (in_later k))) (in_cases j)) (in_append pre i)),
       order_put pre x y post e o.1,
     )
 
 order_drop : (pre : List Seat) (x : Seat) (post : List Seat) → AreInOrder (pre ++ x ∷ post) → AreInOrder (pre ++ post)
 order_drop [] x post o = o.1
 order_drop (z ∷ pre) x post o = (
-  (λ w i. ⊎_elim (λ j. o.0 w (in_left pre (x ∷ post) j)) (λ j. o.0 w (in_right pre (in_later j))) (in_append pre i)),
+  (λ w i. ⊎_elim (λ j. o.0 w (in_left {xs = pre} (x ∷ post) j)) (λ j. o.0 w (in_right pre (in_later j))) (in_append pre i)),
   order_drop pre x post o.1,
 )
 
@@ -125,8 +113,8 @@ in_after : {old after : List Seat} {turn : TurnOf} (m : SeatMoved old after turn
 in_after m t i =
     let P : List Seat → Type 0 = λ xs. In t xs in
     let y : Seat = record { who = m.asks.seat.who; seen = m.asks.new } in
-    ⊎_elim (λ e. subst P (sym e) (⊎_elim (λ j. in_left m.split.pre (y ∷ m.split.post) j) (λ j. in_right m.split.pre (in_later j)) i))
-    (λ e. subst P (sym e.1) (⊎_elim (λ j. in_left m.split.pre m.split.post j) (λ j. in_right m.split.pre j) i)) m.now
+    ⊎_elim (λ e. subst P (sym e) (⊎_elim (λ j. in_left {xs = m.split.pre} (y ∷ m.split.post) j) (λ j. in_right m.split.pre (in_later j)) i))
+    (λ e. subst P (sym e.1) (⊎_elim (λ j. in_left {xs = m.split.pre} m.split.post j) (λ j. in_right m.split.pre j) i)) m.now
 
 place_other : {old after : List Seat} {turn : TurnOf} (m : SeatMoved old after turn) (s : Seat) → AreInOrder old → In s m.split.pre ⊎ In s m.split.post → SeatPlace s m.asks.seat (record { who = m.asks.seat.who; seen = m.asks.new }) after turn
 place_other m s o i = elsewhere (λ e. others_ne m s o i (sym e ∙ m.asks.who)) (in_after m s i)
@@ -151,7 +139,7 @@ data Source (s x y : Seat) (old : List Seat) (turn : TurnOf) : Type 0 where
 in_old : {old after : List Seat} {turn : TurnOf} (m : SeatMoved old after turn) (t : Seat) → In t m.split.pre ⊎ In t m.split.post → In t old
 in_old m t i =
     let P : List Seat → Type 0 = λ xs. In t xs in
-    subst P (sym m.split.is) (⊎_elim (λ j. in_left m.split.pre (m.asks.seat ∷ m.split.post) j) (λ j. in_right m.split.pre (in_later j)) i)
+    subst P (sym m.split.is) (⊎_elim (λ j. in_left {xs = m.split.pre} (m.asks.seat ∷ m.split.post) j) (λ j. in_right m.split.pre (in_later j)) i)
 
 source_other : {old after : List Seat} {turn : TurnOf} (m : SeatMoved old after turn) (s : Seat) → AreInOrder old → In s m.split.pre ⊎ In s m.split.post → Source s m.asks.seat (record { who = m.asks.seat.who; seen = m.asks.new }) old turn
 source_other m s o i = from_elsewhere (λ e. others_ne m s o i (sym e ∙ m.asks.who)) (in_old m s i)
@@ -263,7 +251,7 @@ seat_at i (player ∷ players) (suc j) old who e (at_later a) =
     in_later (seat_at (i + 1) players j old who f a)
 
 at_seat : (i : ℕ) (players : List Seen) (s : Seat) → In s (seats_from i players) → (j : ℕ) × At players j s.seen × (s.who ≡ i + j)
-at_seat i [] s a = absurd (nothing_in a)
+at_seat i [] s a = absurd (in_none a)
 at_seat i (player ∷ players) s a =
     let x : Seat = record { who = i; seen = player } in
     let Goal : Seat → Type 0 = λ t. (j : ℕ) × At (player ∷ players) j t.seen × (t.who ≡ i + j) in

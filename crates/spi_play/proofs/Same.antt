@@ -130,7 +130,7 @@ alone_after only place (Take k) old new seats after next seat was tells does i o
     subst P (sym h) tells
 alone_after only place Leave old new seats after next seat was tells does i other asks there = let e : None ≡ Some i = sym does.2 ∙ asks in absurd (cc)
 
-got_put : (xs : List Seat) (i : ℕ) (x y : Seat) → slice_get xs i ≡ Some x → slice_get (slice_set xs i y) i ≡ Some y
+pub got_put : (xs : List Seat) (i : ℕ) (x y : Seat) → slice_get xs i ≡ Some x → slice_get (slice_set xs i y) i ≡ Some y
 got_put [] i x y e = absurd (cc)
 got_put (z ∷ xs) zero x y e = refl
 got_put (z ∷ xs) (suc i) x y e = got_put xs i x y e
@@ -156,7 +156,7 @@ tells_kept (Some only) most old t new tell turn =
     alone_after only turn.place t.pick old.course new.course turn.seats new.seats new.next x there tells turn.does
 
 -- a play that has ended doesn't go on
-ended_once : {c : Configuration} {next : Option ℕ} {taken most place ready : ℕ} {e : Ended} → EndsBy c next taken most e → PlayGoesOn c next taken most place ready → ⊥
+pub ended_once : {c : Configuration} {next : Option ℕ} {taken most place ready : ℕ} {e : Ended} → EndsBy c next taken most e → PlayGoesOn c next taken most place ready → ⊥
 ended_once (most_reached h) goes = goes.more h
 ended_once (no_players m h) goes = let e : None ≡ Some _ = sym h ∙ goes.at in absurd (cc)
 ended_once (none_ready m h counts) goes = let e = counts_once counts goes.counts in let some = goes.some in omega (arith, e, some)

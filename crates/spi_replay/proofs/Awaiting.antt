@@ -1,11 +1,11 @@
 -- What a wait says of the move that it stands for.
 use Rattle.std.proofs.Common.{◌≡◌, ℕ, List, length, Option, Some, None, slice_get, refl, ap, arith}
+use Rattle.std.proofs.lemmas.Option.{slice_get_within}
 use Rattle.spi_term.specs.Term.{Message, message_size}
 use Rattle.spi_term.specs.Spelling.{stopped}
 use Rattle.spi_intern.specs.Table.{KeepsAll}
 use Rattle.spi_intern.specs.Messages.{message_at}
 use Rattle.spi_intern.specs.declared.messages.MsgId.{MsgId}
-use Rattle.spi_intern.proofs.Lists.{get_below}
 use Rattle.spi_intern.proofs.Sized.{at_message}
 use Rattle.spi_replay.specs.Stepping.{largest}
 use Rattle.spi_replay.specs.declared.waits.Wait.{Wait}
@@ -56,9 +56,9 @@ waits_tell w_stays = record { acts = refl; appends = refl; within = tt; largest 
 waits_tell (w_puts a b) = record { acts = refl; appends = refl; within = tt; largest = λ n. refl; put = a_channel a; take = no_channel }
 waits_tell (w_takes a) = record { acts = refl; appends = refl; within = tt; largest = λ n. refl; put = no_channel; take = a_channel a }
 waits_tell (w_takes_again a) = record { acts = refl; appends = refl; within = tt; largest = λ n. refl; put = no_channel; take = a_channel a }
-waits_tell {ms} (w_binds_one {i = i} {m = m} a) = record { acts = refl; appends = refl; within = get_below ms i.place m a; largest = λ n. omega (arith, size_of ms i a); put = no_channel; take = no_channel }
-waits_tell {ms} (w_binds_two {i = i} {j = j} {m = m} {n = n} a b) = record { acts = refl; appends = refl; within = (get_below ms i.place m a, get_below ms j.place n b); largest = λ n. omega (arith, size_of ms i a, size_of ms j b); put = no_channel; take = no_channel }
+waits_tell {ms} (w_binds_one {i = i} {m = m} a) = record { acts = refl; appends = refl; within = slice_get_within ms i.place m a; largest = λ n. omega (arith, size_of ms i a); put = no_channel; take = no_channel }
+waits_tell {ms} (w_binds_two {i = i} {j = j} {m = m} {n = n} a b) = record { acts = refl; appends = refl; within = (slice_get_within ms i.place m a, slice_get_within ms j.place n b); largest = λ n. omega (arith, size_of ms i a, size_of ms j b); put = no_channel; take = no_channel }
 waits_tell w_goes_on = record { acts = refl; appends = refl; within = tt; largest = λ n. refl; put = no_channel; take = no_channel }
-waits_tell {ms} (w_shows {i = i} {m = m} a) = record { acts = refl; appends = refl; within = get_below ms i.place m a; largest = λ n. omega (arith, size_of ms i a); put = no_channel; take = no_channel }
+waits_tell {ms} (w_shows {i = i} {m = m} a) = record { acts = refl; appends = refl; within = slice_get_within ms i.place m a; largest = λ n. omega (arith, size_of ms i a); put = no_channel; take = no_channel }
 waits_tell w_makes = record { acts = refl; appends = refl; within = tt; largest = λ n. refl; put = no_channel; take = no_channel }
 waits_tell w_forks = record { acts = refl; appends = refl; within = tt; largest = λ n. refl; put = no_channel; take = no_channel }

@@ -6,7 +6,7 @@ use Rattle.std.proofs.Math.Nat.{mul-le-mul_left}
 use Rattle.std.proofs.Math.Seq.{take-length}
 use Rattle.spi_term.specs.Lists.{In, in_first, in_later}
 use Rattle.spi_term.specs.Term.{Message, Process}
-use Rattle.spi_intern.proofs.Lists.{below_get, some_one}
+use Rattle.spi_term.proofs.Lists.{get_some, some_is}
 use Rattle.spi_run.specs.Reduction.{Configuration, Step, act, talk}
 use Rattle.spi_replay.specs.Ready.{first_place, count_at}
 use Rattle.spi_replay.specs.Listing.{acts_now, puts_on, takes_on, is_channel, talks_to, talks_of, steps_at, steps_from, ready_steps, steps_by, steps_begun, steps_before}
@@ -47,7 +47,7 @@ count_from all j zero (q ∷ ps) p e =
     let b = count_all j (steps_at all j q) (λ s h. first_at all j q s h) in
     let c = count_none j (steps_from all (suc j) ps) (λ s h g. let f = first_from all (suc j) ps s h in omega (arith, f, g)) in
     let d : count_at j (steps_from all j (q ∷ ps)) ≡ length (steps_at all j q) = omega (arith, a, b, c) in
-    subst (λ n. count_at n (steps_from all j (q ∷ ps)) ≡ length (steps_at all n p)) (sym z) (d ∙ ap (λ x. length (steps_at all j x)) (some_one e))
+    subst (λ n. count_at n (steps_from all j (q ∷ ps)) ≡ length (steps_at all n p)) (sym z) (d ∙ ap (λ x. length (steps_at all j x)) (some_is e))
 count_from all j (suc k) (q ∷ ps) p e =
     let z : suc j + k ≡ j + suc k = omega arith in
     let a = count_append (j + suc k) (steps_at all j q) (steps_from all (suc j) ps) in
@@ -58,7 +58,7 @@ count_from all j (suc k) (q ∷ ps) p e =
 pub count_begun : (c : Configuration) (i : ℕ) → i < length c.places → length (steps_begun c i) ≡ count_at i (ready_steps c)
 unfolding steps_begun
 count_begun c i h =
-    let w = below_get c.places i h in
+    let w = get_some c.places i h in
     let z : 0 + i ≡ i = omega arith in
     let e : count_at i (steps_from c.places 0 c.places) ≡ length (steps_at c.places i w.0) = subst (λ n. count_at n (steps_from c.places 0 c.places) ≡ length (steps_at c.places n w.0)) z (count_from c.places 0 i c.places w.0 w.1) in
     ap (λ o. length (steps_by c.places i o)) w.1 ∙ sym e
@@ -72,7 +72,7 @@ from_take : (all : List Process) (j k : ℕ) (ps : List Process) (p : Process) �
 from_take all j k [] p e = absurd cc
 from_take all j zero (q ∷ ps) p e =
     let z : j ≡ j + 0 = omega arith in
-    append_nil (steps_at all j q) ∙ ap (λ x. steps_at all j x) (some_one e) ∙ ap (λ n. steps_at all n p) z
+    append_nil (steps_at all j q) ∙ ap (λ x. steps_at all j x) (some_is e) ∙ ap (λ n. steps_at all n p) z
 from_take all j (suc k) (q ∷ ps) p e =
     let z : suc j + k ≡ j + suc k = omega arith in
     ap (λ ss. steps_at all j q ++ ss) (from_take all (suc j) k ps p e ∙ ap (λ n. steps_from all (suc j) (take k ps) ++ steps_at all n p) z) ∙ sym (append_assoc (steps_at all j q) (steps_from all (suc j) (take k ps)) (steps_at all (j + suc k) p))
@@ -95,7 +95,7 @@ before_none c = refl
 pub before_more : (c : Configuration) (i : ℕ) → i < length c.places → steps_before c (suc i) ≡ steps_before c i ++ steps_begun c i
 unfolding steps_before steps_begun
 before_more c i h =
-    let w = below_get c.places i h in
+    let w = get_some c.places i h in
     let z : 0 + i ≡ i = omega arith in
     from_take c.places 0 i c.places w.0 w.1 ∙ ap (λ n. steps_from c.places 0 (take i c.places) ++ steps_at c.places n w.0) z ∙ ap (λ o. steps_from c.places 0 (take i c.places) ++ steps_by c.places i o) (sym w.1)
 

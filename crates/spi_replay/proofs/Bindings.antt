@@ -1,8 +1,9 @@
 -- Names that are bound to messages when a node is entered.
-use Rattle.std.proofs.Common.{◌≡◌, ℕ, List, [], ◌∷◌, ◌++◌, length, Some, slice_get, refl, sym, ap, ◌∙◌, subst, Result, IfOk}
+use Rattle.std.proofs.Common.{◌≡◌, ℕ, List, [], ◌∷◌, ◌++◌, length, slice_get, refl, sym, ap, ◌∙◌, subst, Result, IfOk}
 use Rattle.std.proofs.lemmas.Result.{IfOk-weaker}
 use Rattle.spi_term.specs.Term.{Message}
 use Rattle.spi_term.specs.Spelling.{Spelling}
+use Rattle.spi_term.proofs.Lists.{get_last}
 use Rattle.spi_intern.specs.Table.{KeepsAll}
 use Rattle.spi_intern.specs.declared.messages.MsgId.{MsgId}
 use Rattle.spi_intern.proofs.Tables.{keeps_append, keeps_same}
@@ -12,10 +13,6 @@ use Rattle.spi_replay.specs.Holding.{Chain, a_link}
 use Rattle.spi_replay.specs.Moves.{Numbers}
 use Rattle.spi_replay.specs.Standing.{Enters, CanEnter, StandsAt, HasEntered, Binds, CanBind, HasBound, CanBindTwo, HasBoundTwo}
 use Rattle.spi_replay.proofs.Chains.{chain_kept}
-
-pub get_last : {A : Type 0} (xs : List A) (y : A) → slice_get (xs ++ y ∷ []) (length xs) ≡ Some y
-get_last [] y = refl
-get_last (x ∷ xs) y = get_last xs y
 
 pub keeps_as : {A : Type 0} {xs ys zs : List A} → ys ≡ zs → KeepsAll xs ys → KeepsAll xs zs
 keeps_as {xs = xs} e k = subst (KeepsAll xs) e k

@@ -1,6 +1,7 @@
 -- Messages of names along links, and instances of messages in a store.
 use Rattle.std.proofs.Common.{◌≡◌, ℕ, zero, suc, ◌+◌, ◌-◌, ◌<◌, ◌≤◌, List, [], ◌∷◌, length, Some, slice_get, get_or, refl, sym, ap, ◌∙◌, subst, arith, Result, IfOk}
 use Rattle.std.proofs.lemmas.Result.{IfOk-weaker}
+use Rattle.std.proofs.lemmas.Option.{slice_get_within}
 use Rattle.spi_term.specs.Term.{Message, name}
 use Rattle.spi_term.specs.Substitution.{replace}
 use Rattle.spi_term.specs.Spelling.{Spelling}
@@ -15,7 +16,6 @@ use Rattle.spi_replay.specs.declared.names.Scope.{Scope}
 use Rattle.spi_replay.specs.Holding.{value, message_with, linked, chain, Chain, no_link, a_link}
 use Rattle.spi_replay.specs.Moves.{Numbers}
 use Rattle.spi_replay.specs.Standing.{HasLink, IsValueAt, InScopeOf, HasNames, IsInstance, Enters, Binds}
-use Rattle.spi_intern.proofs.Lists.{get_below}
 use Rattle.spi_intern.proofs.Tables.{keeps_same}
 use Rattle.spi_replay.proofs.Opening.{value_here, value_other}
 
@@ -55,7 +55,7 @@ get_link (x ∷ ls) zero l d e = let g : x ≡ l = cc in g
 get_link (x ∷ ls) (suc i) l d e = get_link ls i l d e
 
 pub has_within : {ls : List Link} {last steps : ℕ} → HasLink ls last steps → last < length ls
-has_within {ls} {last} h = let b = before h.linked (omega (arith, h.within)) in get_below ls last b.link b.there
+has_within {ls} {last} h = let b = before h.linked (omega (arith, h.within)) in slice_get_within ls last b.link b.there
 
 pub has_before : {ls : List Link} {last steps : ℕ} (d : Link) → HasLink ls last steps → 0 < steps → HasLink ls (get_or ls last d).before (steps - 1)
 has_before {ls} {last} {steps} d h p =

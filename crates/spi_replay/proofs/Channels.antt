@@ -1,13 +1,13 @@
 -- The places that wait on a channel.
 use Rattle.std.proofs.Common.{◌≡◌, ℕ, zero, suc, ◌+◌, ◌<◌, ◌≤◌, Bool, true, false, List, [], ◌∷◌, map, length, Option, Some, None, slice_get, refl, sym, ap, ◌∙◌, subst, arith, true≢false, ⊎_elim, ◌⊎◌, inl, inr}
+use Rattle.std.proofs.lemmas.Option.{slice_get_within}
 use Rattle.std.specs.Prelude.{if◌then◌else◌}
 use Rattle.spi_term.specs.Lists.{At, In, AreAscending}
-use Rattle.spi_term.proofs.Lists.{get_at, at_get}
+use Rattle.spi_term.proofs.Lists.{get_at, at_get, some_is, get_map}
 use Rattle.spi_term.specs.Term.{Message, same_message, Process, send, recv, serve}
 use Rattle.spi_intern.specs.Table.{AllDiffer}
 use Rattle.spi_intern.specs.Messages.{message_at}
 use Rattle.spi_intern.specs.declared.messages.MsgId.{MsgId}
-use Rattle.spi_intern.proofs.Lists.{some_one, get_below}
 use Rattle.spi_intern.proofs.MessageLaws.{same_true, same_self}
 use Rattle.spi_replay.specs.declared.names.Link.{Link}
 use Rattle.spi_replay.specs.declared.places.Place.{Place}
@@ -25,7 +25,6 @@ use Rattle.spi_replay.specs.Ready.{PutsOut, puts_out, TakesIn, takes_once, takes
 use Rattle.spi_intern.proofs.Sized.{at_message, message_there}
 use Rattle.spi_replay.proofs.Chosen.{chosen, InChosen, in_chosen, chosen_in}
 use Rattle.spi_replay.proofs.Awaiting.{Channel, no_channel, a_channel}
-use Rattle.spi_replay.proofs.Stepped.{get_map}
 use Rattle.spi_replay.proofs.Told.{puts_told, takes_told, same_channel, many_places}
 
 -- what puts out and takes in, by its channel
@@ -37,12 +36,12 @@ takes_some takes_once = refl
 takes_some takes_again = refl
 
 some_puts : (m : Message) (q : Process) → puts_on q ≡ Some m → PutsOut m q
-some_puts m (send a b) e = subst (λ x. PutsOut x (send a b)) (some_one e) puts_out
+some_puts m (send a b) e = subst (λ x. PutsOut x (send a b)) (some_is e) puts_out
 some_puts m q e = absurd cc
 
 some_takes : (m : Message) (q : Process) → takes_on q ≡ Some m → TakesIn m q
-some_takes m (recv a t p) e = subst (λ x. TakesIn x (recv a t p)) (some_one e) takes_once
-some_takes m (serve a t p) e = subst (λ x. TakesIn x (serve a t p)) (some_one e) takes_again
+some_takes m (recv a t p) e = subst (λ x. TakesIn x (recv a t p)) (some_is e) takes_once
+some_takes m (serve a t p) e = subst (λ x. TakesIn x (serve a t p)) (some_is e) takes_again
 some_takes m q e = absurd cc
 
 -- the number of a channel
@@ -57,14 +56,14 @@ number_of {ms} (a_channel {c = c} {m = n} f) e = record { number = c; is = refl;
 
 number_below : {ms : List Message} {o : Option ℕ} {x : Option Message} {c : ℕ} → Channel ms o x → o ≡ Some c → c < length ms
 number_below no_channel e = absurd cc
-number_below {ms} (a_channel {c = k} {m = m} f) e = let g = some_one e in let h = get_below ms k m f in omega (arith, g, h)
+number_below {ms} (a_channel {c = k} {m = m} f) e = let g = some_is e in let h = slice_get_within ms k m f in omega (arith, g, h)
 
 abbrev OnChannel : Wait → ℕ → Type 0
 OnChannel w c = (out_channel w ≡ Some c) ⊎ (in_channel w ≡ Some c)
 
 one_number : (w : Wait) (c d : ℕ) → OnChannel w c → OnChannel w d → c ≡ d
-one_number w c d (inl e) (inl f) = some_one (sym e ∙ f)
-one_number w c d (inr e) (inr f) = some_one (sym e ∙ f)
+one_number w c d (inl e) (inl f) = some_is (sym e ∙ f)
+one_number w c d (inr e) (inr f) = some_is (sym e ∙ f)
 one_number w c d (inl e) (inr f) = not_both w c d e f
   where
     not_both : (w : Wait) (c d : ℕ) → out_channel w ≡ Some c → in_channel w ≡ Some d → c ≡ d
@@ -113,7 +112,7 @@ module _ (s : State) (h : IsState s) (n : ℕ) (p : Place) (there : slice_get s.
       cases i l = grind arith
 
       at_place : (i : ℕ) (q : Process) → i ≡ n → slice_get (pooled s).configuration.places i ≡ Some q → q ≡ place_process s.store.messages s.links.items p
-      at_place i q k e = some_one (sym e ∙ ap (slice_get (pooled s).configuration.places) k ∙ get_map (place_process s.store.messages s.links.items) s.index.places.items n there)
+      at_place i q k e = some_is (sym e ∙ ap (slice_get (pooled s).configuration.places) k ∙ get_map (place_process s.store.messages s.links.items) s.index.places.items n there)
 
   pub next_none : (out_channel p.wait ≡ None) × (in_channel p.wait ≡ None) → NoneBefore s m n → NoneBefore s m (n + 1)
   next_none e b = none_more (waits_none p (h.places.each n p there) m e) b
@@ -129,7 +128,7 @@ module _ (s : State) (h : IsState s) (n : ℕ) (p : Place) (there : slice_get s.
 
 pub none_end : (s : State) (m : Message) (n : ℕ) → length s.index.places.items ≤ n → NoneBefore s m n → (i : ℕ) (q : Process) → slice_get (pooled s).configuration.places i ≡ Some q → PutsOut m q ⊎ TakesIn m q → ⊥
 none_end s m n l b i q e w =
-    let f = get_below (pooled s).configuration.places i q e in
+    let f = slice_get_within (pooled s).configuration.places i q e in
     let g = many_places s in
     b.none i q (omega (arith, f, g)) e w
 
@@ -155,7 +154,7 @@ ascending f c i (w ∷ ws) = by (ascending f c (suc i) ws) (is_on c (f w))
 -- of an element of a list by a function
 map_got : {A B : Type 0} (f : A → B) (xs : List A) (i : ℕ) (y : B) → slice_get (map f xs) i ≡ Some y → (x : A) × (slice_get xs i ≡ Some x) × (f x ≡ y)
 map_got f [] i y e = absurd cc
-map_got f (x ∷ xs) zero y e = (x, refl, some_one e)
+map_got f (x ∷ xs) zero y e = (x, refl, some_is e)
 map_got f (x ∷ xs) (suc i) y e = map_got f xs i y e
 
 on_some : (c : Message) (o : Option Message) → is_channel c o ≡ true → o ≡ Some c

@@ -2,8 +2,7 @@
 use Rattle.std.proofs.Common.{◌≡◌, ℕ, zero, suc, ◌+◌, Bool, true, false, List, [], ◌∷◌, Some, slice_get, refl, sym, ap, ◌∙◌, subst, arith, ⊎_elim}
 use Rattle.std.specs.Prelude.{if◌then◌else◌}
 use Rattle.spi_term.specs.Lists.{In, in_first, in_later}
-use Rattle.spi_term.proofs.Lists.{in_cases}
-use Rattle.spi_intern.proofs.Lists.{some_one}
+use Rattle.spi_term.proofs.Lists.{in_cases, some_is}
 
 abbrev pub chosen : {A B : Type 0} → (A → Bool) → (ℕ → B) → ℕ → List A → List B
 chosen on f i [] = []
@@ -33,7 +32,7 @@ pub chosen_in : {A B : Type 0} (on : A → Bool) (f : ℕ → B) (i k : ℕ) (xs
 chosen_in on f i k [] x e t = absurd cc
 chosen_in on f i zero (y ∷ xs) x e t =
     let g : i ≡ i + 0 = omega arith in
-    subst (λ z. In (f (i + 0)) (if z then f i ∷ chosen on f (suc i) xs else chosen on f (suc i) xs)) (sym (ap on (some_one e) ∙ t)) (subst (λ n. In (f n) (f i ∷ chosen on f (suc i) xs)) g in_first)
+    subst (λ z. In (f (i + 0)) (if z then f i ∷ chosen on f (suc i) xs else chosen on f (suc i) xs)) (sym (ap on (some_is e) ∙ t)) (subst (λ n. In (f n) (f i ∷ chosen on f (suc i) xs)) g in_first)
 chosen_in {A} {B} on f i (suc k) (y ∷ xs) x e t =
     let g : suc i + k ≡ i + suc k = omega arith in
     by (on y) (subst (λ n. In (f n) (chosen on f (suc i) xs)) g (chosen_in on f (suc i) k xs x e t))

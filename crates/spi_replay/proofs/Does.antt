@@ -5,7 +5,7 @@ use Rattle.spi_term.specs.Term.{Message, name, Ty, Process, send, recv, serve, s
 use Rattle.spi_term.specs.Names.{ProcessOver}
 use Rattle.std.proofs.lemmas.Bool.{eqb-true}
 use Rattle.spi_term.specs.Spelling.{Shape, Spelling, spelled}
-use Rattle.spi_intern.proofs.Lists.{some_one}
+use Rattle.spi_term.proofs.Lists.{some_is}
 use Rattle.spi_intern.specs.Table.{KeepsAll, AllDiffer}
 use Rattle.spi_intern.specs.declared.messages.MsgId.{MsgId}
 use Rattle.spi_run.specs.Reduction.{Event, Talks, talks_once, talks_again}
@@ -242,7 +242,7 @@ pub record Meets (ms : List Message) (ls : List Link) (p q : Place) (m : Meeting
   pub binds : Binds ms ls q.source.now m.body q.last values (datum ∷ [])
 
 same_place : (ms : List Message) (i j : MsgId) {m n : Message} → i.place ≡ j.place → Numbers ms i m → Numbers ms j n → m ≡ n
-same_place ms i j e a b = some_one (sym a ∙ ap (slice_get ms) e ∙ b)
+same_place ms i j e a b = some_is (sym a ∙ ap (slice_get ms) e ∙ b)
 
 meets_from : {ms : List Message} {ls : List Link} (p q : Place) (on at d : MsgId) (i : ℕ) (z : Bool) → on.place ≡ at.place → PutsHere ms ls p on d → TakesHere ms ls q at i z → Meets ms ls p q (record { datum = d; body = i; again = z })
 meets_from {ms} {ls} p q on at d i z e x y =
@@ -263,7 +263,7 @@ met_same : (on at : MsgId) (m r : Meeting) → met_if on at m ≡ Some r → (on
 met_same on at m r e = by (on.place == at.place) refl e
   where
     by : (z : Bool) → (on.place == at.place) ≡ z → (if z then Some m else None) ≡ Some r → (on.place ≡ at.place) × (m ≡ r)
-    by true f g = (eqb-true on.place at.place f, some_one g)
+    by true f g = (eqb-true on.place at.place f, some_is g)
     by false f g = absurd cc
 
 pub meets_of : {ms : List Message} {ls : List Link} (p q : Place) (m : Meeting) → IsPlace ms ls p → IsPlace ms ls q → met_by p.wait q.wait ≡ Some m → Meets ms ls p q m

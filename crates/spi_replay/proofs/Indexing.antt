@@ -8,7 +8,8 @@ use Rattle.std.proofs.lemmas.List.Sorted.{searched}
 use Rattle.std.proofs.lemmas.Bool.{cases_order}
 use Rattle.std.proofs.lemmas.Bool.Decides.{nat_tests}
 use Rattle.std.proofs.lemmas.List.{map-append, map-set, length-map, length-set}
-use Rattle.spi_intern.proofs.Lists.{some_one, get_below}
+use Rattle.std.proofs.lemmas.Option.{slice_get_within}
+use Rattle.spi_term.proofs.Lists.{some_is}
 use Rattle.spi_replay.specs.declared.places.Place.{Place}
 use Rattle.spi_replay.specs.declared.waits.Wait.{Wait}
 use Rattle.spi_replay.specs.declared.waits.Wait.TheVariants.{Stays}
@@ -244,31 +245,31 @@ put_one false false l r t u v e h k = e ∙ k
 -- a place changes
 get_wait : (xs : List Place) (i : ℕ) (x : Place) → slice_get xs i ≡ Some x → slice_get (waits_of xs) i ≡ Some x.wait
 get_wait [] i x e = absurd cc
-get_wait (y ∷ xs) zero x e = ap (λ (z : Place). Some z.wait) (some_one e)
+get_wait (y ∷ xs) zero x e = ap (λ (z : Place). Some z.wait) (some_is e)
 get_wait (y ∷ xs) (suc i) x e = get_wait xs i x e
 
 pub turned_set : (f : Wait → Option ℕ) (ps : List Place) (k : ℕ) (p q : Place) → slice_get ps k ≡ Some q → HasTurned f (waits_of ps) (waits_of (slice_set ps k p)) (table_change f (record { place = k; from = q.wait; to = p.wait }))
 turned_set f ps k p q e = record {
-  on = λ c. ap (places_on f c 0) (map-set (λ (x : Place). x.wait) ps k p) ∙ set_on f c k 0 k (waits_of ps) p.wait (omega arith) (omega (arith, get_below ps k q e, length-map ps (λ (x : Place). x.wait)));
-  off = λ c g h. ap (places_on f c 0) (map-set (λ (x : Place). x.wait) ps k p) ∙ set_off f c 0 k (waits_of ps) p.wait (λ v at. subst (λ (w : Wait). is_on c (f w) ≡ false) (some_one (sym (get_wait ps k q e) ∙ at)) g) h;
+  on = λ c. ap (places_on f c 0) (map-set (λ (x : Place). x.wait) ps k p) ∙ set_on f c k 0 k (waits_of ps) p.wait (omega arith) (omega (arith, slice_get_within ps k q e, length-map ps (λ (x : Place). x.wait)));
+  off = λ c g h. ap (places_on f c 0) (map-set (λ (x : Place). x.wait) ps k p) ∙ set_off f c 0 k (waits_of ps) p.wait (λ v at. subst (λ (w : Wait). is_on c (f w) ≡ false) (some_is (sym (get_wait ps k q e) ∙ at)) g) h;
 }
 
 -- a place changes after one that waits for nothing now, which may be the same
 get_after : (xs : List Wait) (i j : ℕ) (v w : Wait) → slice_get (slice_set xs i w) j ≡ Some v → (slice_get xs j ≡ Some v) ⊎ (v ≡ w)
 get_after [] i j v w e = absurd cc
-get_after (x ∷ xs) zero zero v w e = inr (sym (some_one e))
+get_after (x ∷ xs) zero zero v w e = inr (sym (some_is e))
 get_after (x ∷ xs) zero (suc j) v w e = inl e
 get_after (x ∷ xs) (suc i) zero v w e = inl e
 get_after (x ∷ xs) (suc i) (suc j) v w e = get_after xs i j v w e
 
 pub turned_next : (f : Wait → Option ℕ) (ps : List Place) (i j : ℕ) (d p q : Place) → f d.wait ≡ None → slice_get ps j ≡ Some q → HasTurned f (waits_of (slice_set ps i d)) (waits_of (slice_set (slice_set ps i d) j p)) (table_change f (record { place = j; from = q.wait; to = p.wait }))
 turned_next f ps i j d p q n e = record {
-  on = λ c. ap (places_on f c 0) (map-set (λ (x : Place). x.wait) (slice_set ps i d) j p) ∙ set_on f c j 0 j (waits_of (slice_set ps i d)) p.wait (omega arith) (omega (arith, get_below ps j q e, length-map (slice_set ps i d) (λ (x : Place). x.wait), length-set ps i d));
+  on = λ c. ap (places_on f c 0) (map-set (λ (x : Place). x.wait) (slice_set ps i d) j p) ∙ set_on f c j 0 j (waits_of (slice_set ps i d)) p.wait (omega arith) (omega (arith, slice_get_within ps j q e, length-map (slice_set ps i d) (λ (x : Place). x.wait), length-set ps i d));
   off = λ c g h. ap (places_on f c 0) (map-set (λ (x : Place). x.wait) (slice_set ps i d) j p) ∙ set_off f c 0 j (waits_of (slice_set ps i d)) p.wait (λ v at. by c g v (get_after (waits_of ps) i j v d.wait (subst (λ (ws : List Wait). slice_get ws j ≡ Some v) (map-set (λ (x : Place). x.wait) ps i d) at))) h;
 }
   where
     by : (c : ℕ) → is_on c (f q.wait) ≡ false → (v : Wait) → (slice_get (waits_of ps) j ≡ Some v) ⊎ (v ≡ d.wait) → is_on c (f v) ≡ false
-    by c g v (inl at) = subst (λ (w : Wait). is_on c (f w) ≡ false) (some_one (sym (get_wait ps j q e) ∙ at)) g
+    by c g v (inl at) = subst (λ (w : Wait). is_on c (f w) ≡ false) (some_is (sym (get_wait ps j q e) ∙ at)) g
     by c g v (inr s) = ap (λ (w : Wait). is_on c (f w)) s ∙ ap (is_on c) n
 
 -- a place comes, or none

@@ -1,23 +1,17 @@
 -- A process held with one message more is the process held before it, opened with the message.
-use Rattle.std.proofs.Common.{◌≡◌, ℕ, suc, ◌+◌, ◌-◌, ◌<◌, ◌≤◌, Bool, true, false, List, [], ◌∷◌, length, refl, sym, ap, ◌∙◌, subst, arith, ⊎_elim, eq-eqb}
-use Rattle.std.specs.Prelude.{if◌then◌else◌}
+use Rattle.std.proofs.Common.{◌≡◌, ℕ, suc, ◌+◌, ◌-◌, ◌<◌, ◌≤◌, List, [], ◌∷◌, length, refl, sym, ap, ◌∙◌, subst, arith, ⊎_elim, eq-eqb}
 use Rattle.std.proofs.lemmas.Bool.{cases_lt, cases_eq, ne_eqb}
 use Rattle.spi_term.specs.Term.{Message, bound, name, unit, pair, in_left, in_right, enc, hash, ends, checks, many, Effect, Ty, un, unit_ty, pair_ty, sum_ty, key, nonce, Leaf, Sends, Stops, Prefix, Recvs, Serves, Splits, Selects, Decrypts, Checks, Begins, Ends, EndManys, Casts, Freshes, Fork, Branches, Pars, Process, leaf, prefix, fork, binds, fork_binds}
 use Rattle.spi_term.specs.Substitution.{effect_map, ty_map, leaf_map, prefix_map, fork_map, process_map, process_put, process_put_two, put, replace}
 use Rattle.spi_term.specs.Names.{MessageOver, OfEffect, OfTy, OfLeaf, OfPrefix, OfFork, ProcessOver}
 use Rattle.spi_term.specs.Spelling.{index_message, indexed, numbered, flat}
 use Rattle.spi_term.specs.Arena.{InScope}
+use Rattle.spi_term.proofs.Choices.{if_yes, if_no}
 use Rattle.spi_term.proofs.Terms.{binds_map, fork_binds_map}
 use Rattle.spi_term.proofs.Mapped.{mapped_to_itself}
 use Rattle.spi_term.proofs.Numbers.{index_low, index_high, index_kept, numbered_in_scope, over_indexed, number_index}
 use Rattle.spi_term.proofs.Unique.{spelled_one}
 use Rattle.spi_replay.specs.Holding.{value, held_message, held, IsClosed, AllClosed}
-
-if_yes : {A : Type 0} {b : Bool} (x y : A) → b ≡ true → (if b then x else y) ≡ x
-if_yes x y e = rw e
-
-if_no : {A : Type 0} {b : Bool} (x y : A) → b ≡ false → (if b then x else y) ≡ y
-if_no x y e = rw e
 
 -- two maps one after the other, as one. The first is x binders deeper
 module _ (f g h : ℕ → Message → Message) (P : ℕ → Message → Type 0) (x : ℕ) (ok : (d c : ℕ) → d ≡ c + x → (m : Message) → P c m → f d (g c m) ≡ h c m) where

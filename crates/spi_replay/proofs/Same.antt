@@ -3,12 +3,13 @@ use Rattle.std.proofs.Common.{◌≡◌, ℕ, ◌<◌, Bool, true, false, ◌&&�
 use Rattle.spi_term.specs.Term.{Message, bound, name, unit, pair, in_left, in_right, enc, hash, same_message}
 use Rattle.spi_term.specs.View.{message}
 use Rattle.spi_term.specs.declared.term.Msg.{Msg}
+use Rattle.spi_term.proofs.Counting.{and_true}
 use Rattle.spi_intern.specs.Messages.{Says, says_bound, says_name, says_unit, says_pair, says_left, says_right, says_enc, says_hash, message_at}
 use Rattle.spi_intern.specs.declared.messages.MsgId.{MsgId}
 use Rattle.spi_intern.specs.declared.messages.MsgPart.{MsgPart}
 use Rattle.spi_intern.specs.declared.messages.MsgPart.TheVariants.{Bound, Name, Unit as NoParts, Pair, Inl, Inr, Enc, Hash}
 use Rattle.spi_intern.proofs.Lists.{truths}
-use Rattle.spi_intern.proofs.MessageLaws.{both, both_are, part_eq, part_true, part_self, same_true, same_self}
+use Rattle.spi_intern.proofs.MessageLaws.{both_are, part_eq, part_true, part_self, same_true, same_self}
 use Rattle.spi_intern.proofs.Sized.{TwoOf, OneOf, Tells, message_there, bound_of, name_of, unit_of}
 
 pub same_of : {a b : Message} → a ≡ b → same_message a b ≡ true
@@ -17,7 +18,7 @@ same_of {a} {b} e = ap (same_message a) (sym e) ∙ same_self a
 -- two messages of one form are equal where their parts are
 two_same : (f : Message → Message → Message) → ((x y a b : Message) → f x y ≡ f a b → (x ≡ a) × (y ≡ b)) → (x y a b w n : Message) → f x y ≡ w → n ≡ f a b → (same_message x a && same_message y b) ≡ same_message w n
 two_same f one x y a b w n e g =
-    truths (same_message x a && same_message y b) (same_message w n) (λ h. let k = both (same_message x a) (same_message y b) h in same_of (sym e ∙ (λ i. f (same_true x a k.0 i) (same_true y b k.1 i)) ∙ sym g)) (λ h. let k = one x y a b (e ∙ same_true w n h ∙ g) in both_are (same_message x a) (same_message y b) (same_of k.0) (same_of k.1))
+    truths (same_message x a && same_message y b) (same_message w n) (λ h. let k = and_true (same_message x a) (same_message y b) h in same_of (sym e ∙ (λ i. f (same_true x a k.0 i) (same_true y b k.1 i)) ∙ sym g)) (λ h. let k = one x y a b (e ∙ same_true w n h ∙ g) in both_are (same_message x a) (same_message y b) (same_of k.0) (same_of k.1))
 
 one_same : (f : Message → Message) → ((x a : Message) → f x ≡ f a → x ≡ a) → (x a w n : Message) → f x ≡ w → n ≡ f a → same_message x a ≡ same_message w n
 one_same f one x a w n e g =

@@ -2,8 +2,8 @@
 use Rattle.std.proofs.Common.{◌≡◌, ℕ, ◌+◌, ◌≤◌, true, List, ◌∷◌, length, Option, Some, None, slice_get, ap, arith, subst, sym, ◌∙◌}
 use Rattle.std.proofs.lemmas.List.{length-map}
 use Rattle.spi_term.specs.Term.{Message}
+use Rattle.spi_term.proofs.Lists.{some_is}
 use Rattle.spi_intern.specs.Table.{KeepsAll}
-use Rattle.spi_intern.proofs.Lists.{some_one}
 use Rattle.spi_run.specs.Reduction.{Step, Event, act, talk}
 use Rattle.spi_replay.specs.declared.names.Link.{Link}
 use Rattle.spi_replay.specs.declared.places.Place.{Place}
@@ -41,7 +41,7 @@ state_then s t h k m ps = record {
 -- an act
 module _ (s : State) (i : ℕ) (is : IsState s) (may : MayAct s i) {p : Place} (at : slice_get s.index.places.items i ≡ Some p) where
   same : may.place ≡ p
-  same = some_one (sym may.there ∙ at)
+  same = some_is (sym may.there ∙ at)
 
   pub acts_here : wait_acts p.wait ≡ true
   acts_here = subst (λ (q : Place). wait_acts q.wait ≡ true) same may.acts
@@ -57,7 +57,7 @@ module _ (s : State) (i : ℕ) (is : IsState s) (may : MayAct s i) {p : Place} (
 -- a meeting
 module _ (s : State) (i j : ℕ) (m : Meeting) (is : IsState s) (may : MayTalk s i j m) {q : Place} (at : slice_get s.index.places.items j ≡ Some q) where
   meeting : met_by may.out.wait q.wait ≡ Some m
-  meeting = subst (λ (x : Place). met_by may.out.wait x.wait ≡ Some m) (some_one (sym may.inp_there ∙ at)) may.meet
+  meeting = subst (λ (x : Place). met_by may.out.wait x.wait ≡ Some m) (some_is (sym may.inp_there ∙ at)) may.meet
 
   abbrev meets : Meets s.store.messages s.links.items may.out q m
   meets = meets_of may.out q m (is.places.each i may.out may.out_there) (is.places.each j q at) meeting

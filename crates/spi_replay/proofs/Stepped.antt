@@ -1,17 +1,15 @@
 -- What a pool's state does is a step of its configuration.
-use Rattle.std.specs.Option.{option_map}
-use Rattle.std.proofs.lemmas.Option.{slice_get-map, slice_get-get_or}
-use Rattle.std.proofs.Common.{◌≡◌, ℕ, zero, suc, ◌+◌, ◌<◌, ◌≤◌, Bool, true, false, List, [], ◌∷◌, ◌++◌, length, map, Option, Some, None, slice_get, slice_set, get_or, refl, sym, ap, ◌∙◌, subst, arith, ⊎_elim, ◌⊎◌, inl, inr, append-nil, length-append}
+use Rattle.std.proofs.lemmas.Option.{slice_get_within}
+use Rattle.std.proofs.Common.{◌≡◌, ℕ, zero, suc, ◌+◌, ◌<◌, ◌≤◌, Bool, true, false, List, [], ◌∷◌, ◌++◌, length, map, Option, Some, None, slice_get, slice_set, refl, sym, ap, ◌∙◌, subst, arith, ⊎_elim, ◌⊎◌, inl, inr, append-nil, length-append}
 use Rattle.std.specs.Prelude.{if◌then◌else◌, Result, Ok, Err, OnErr}
 use Rattle.std.proofs.lemmas.List.{map-append, map-set, length-map, length-set}
 use Rattle.spi_term.specs.Lists.{At}
-use Rattle.spi_term.proofs.Lists.{get_at, at_unique}
+use Rattle.spi_term.proofs.Lists.{get_at, at_unique, some_is, get_either, get_map}
 use Rattle.spi_term.specs.Term.{Message, name, Process, stop, message_size}
 use Rattle.spi_term.specs.Names.{ProcessOver}
 use Rattle.spi_term.specs.Spelling.{Spelling, spelled, stopped}
 use Rattle.spi_intern.specs.Table.{KeepsAll, AllDiffer}
 use Rattle.spi_intern.specs.Messages.{message_at}
-use Rattle.spi_intern.proofs.Lists.{get_below, some_one}
 use Rattle.spi_run.specs.Reduction.{Configuration, Step, act, talk, Event, Acts, Talks, Takes, takes_act, takes_talk}
 use Rattle.spi_run.specs.Safety.{beside}
 use Rattle.spi_run.proofs.Once.{takes_once}
@@ -42,20 +40,12 @@ map_same : {A B : Type 0} (f g : A → B) (xs : List A) → ((i : ℕ) (x : A) �
 map_same f g [] h = refl
 map_same f g (x ∷ xs) h = λ i. h 0 x refl i ∷ map_same f g xs (λ j y e. h (suc j) y e) i
 
-pub get_map : {A B : Type 0} (f : A → B) (xs : List A) (i : ℕ) {x : A} → slice_get xs i ≡ Some x → slice_get (map f xs) i ≡ Some (f x)
-get_map f xs i e = slice_get-map f xs i ∙ ap (option_map f) e
-
 get_set : {A : Type 0} (xs : List A) (i j : ℕ) (x y : A) → slice_get (slice_set xs i x) j ≡ Some y → (x ≡ y) ⊎ (slice_get xs j ≡ Some y)
 get_set [] i j x y e = absurd cc
 get_set (z ∷ xs) zero zero x y e = inl cc
 get_set (z ∷ xs) zero (suc j) x y e = inr e
 get_set (z ∷ xs) (suc i) zero x y e = inr e
 get_set (z ∷ xs) (suc i) (suc j) x y e = get_set xs i j x y e
-
-get_append : {A : Type 0} (xs ys : List A) (j : ℕ) (y : A) → slice_get (xs ++ ys) j ≡ Some y → (slice_get xs j ≡ Some y) ⊎ ((k : ℕ) × (slice_get ys k ≡ Some y))
-get_append [] ys j y e = inr (j, e)
-get_append (x ∷ xs) ys zero y e = inl e
-get_append (x ∷ xs) ys (suc j) y e = get_append xs ys j y e
 
 set_same : {A : Type 0} (xs : List A) (i : ℕ) {x : A} → slice_get xs i ≡ Some x → slice_set xs i x ≡ xs
 set_same [] i e = absurd cc
@@ -84,7 +74,7 @@ set_places : {ms : List Message} {ls : List Link} {ps : List Place} (i : ℕ) {p
 set_places {ms} {ls} {ps} i {p} h q = record { each = λ j x e. ⊎_elim (λ (f : p ≡ x). subst (IsPlace ms ls) f q) (λ f. h.each j x f) (get_set ps i j p x e) }
 
 append_places : {ms : List Message} {ls : List Link} {ps qs : List Place} → ArePlaces ms ls ps → ArePlaces ms ls qs → ArePlaces ms ls (ps ++ qs)
-append_places {ps = ps} {qs = qs} h g = record { each = λ j x e. ⊎_elim (λ f. h.each j x f) (λ (f : (k : ℕ) × (slice_get qs k ≡ Some x)). g.each f.0 x f.1) (get_append ps qs j x e) }
+append_places {ps = ps} {qs = qs} h g = record { each = λ j x e. ⊎_elim (λ f. h.each j x f) (λ (f : (k : ℕ) × (slice_get qs k ≡ Some x)). g.each f.0 x f.1) (get_either ps qs j x e) }
 
 one_place : {ms : List Message} {ls : List Link} {p : Place} → IsPlace ms ls p → ArePlaces ms ls (p ∷ [])
 one_place {ms} {ls} {p} h = record { each = at }
@@ -112,7 +102,7 @@ module _ (ms : List Message) (ls : List Link) (ps : List Place) (n most i : ℕ)
   handed_at j = ap (by_place handed_over) (get_map (place_process ms ls) ps i at)
 
   pub inside : i < length (processes ms ls ps)
-  inside = omega (arith, length-map ps (place_process ms ls), get_below ps i p at)
+  inside = omega (arith, length-map ps (place_process ms ls), slice_get_within ps i p at)
 
   outside_no : (k : ℕ) → FirstOutside (length (processes ms ls ps)) (i ∷ []) k → ⊥
   outside_no k o = one_outside inside o
@@ -195,10 +185,6 @@ act_taken {ms} {ns} {ls} {ks} {ps} n most i p t k l h at e s f b =
 pub taken_to : {p : Pooled} {s : Step} {e : Option Event} (ns : List Message) (ks : List Link) {qs rs : List Place} (n most : ℕ) → qs ≡ rs → IsTaken p s e (pool_of ns ks rs n most) → IsTaken p s e (pool_of ns ks qs n most)
 taken_to {p} {s} {e} ns ks n most g t = subst (λ (xs : List Place). IsTaken p s e (pool_of ns ks xs n most)) (sym g) t
 
--- what is read at a place
-pub got : {A : Type 0} (xs : List A) (i : ℕ) (x : A) → i < length xs → x ≡ get_or xs i x → slice_get xs i ≡ Some x
-got xs i x h e = slice_get-get_or xs i x h ∙ ap Some (sym e)
-
 -- a meeting
 met_self : (w : Wait) (m : Meeting) → met_by w w ≡ Some m → ⊥
 met_self (W.Puts i d) m e = cc
@@ -272,7 +258,7 @@ module _ (ms : List Message) (ls : List Link) (ps : List Place) (n most i j : �
 
         other : i ≡ j → ⊥
         other r =
-            let s : p ≡ q = some_one (sym at ∙ ap (slice_get ps) r ∙ at') in
+            let s : p ≡ q = some_is (sym at ∙ ap (slice_get ps) r ∙ at') in
             met_self q.wait m (subst (λ (x : Place). met_by x.wait q.wait ≡ Some m) s e)
 
         by : (z : Bool) → slice_set (slice_set (processes ms ls ps) i stop) j (if z then place_process ms ls q else held_at q.source.now.names (meet.datum ∷ meet.values) (spelled q.source.now.names q.source.now.process) m.body) ++ (if z then held_at q.source.now.names (meet.datum ∷ meet.values) (spelled q.source.now.names q.source.now.process) m.body ∷ [] else []) ≡ processes ns ks (places_settled ps i p j now z)
@@ -326,7 +312,7 @@ refuse_talk_many_by ms ls ps n most i j m z at at' h e s f l = subst (λ x. Refu
 
 -- the datum has a number
 pub datum_below : {ms : List Message} {ls : List Link} {ps : List Place} (i j : ℕ) {p q : Place} (m : Meeting) → slice_get ps i ≡ Some p → slice_get ps j ≡ Some q → ArePlaces ms ls ps → met_by p.wait q.wait ≡ Some m → m.datum.place < length ms
-datum_below {ms} i j {p} {q} m at at' h e = let t = meets_of p q m (h.each i p at) (h.each j q at') e in get_below ms m.datum.place t.datum t.number
+datum_below {ms} i j {p} {q} m at at' h e = let t = meets_of p q m (h.each i p at) (h.each j q at') e in slice_get_within ms m.datum.place t.datum t.number
 
 -- the two at the start
 pub two_places : {ms : List Message} {ls : List Link} {p q : Place} → IsPlace ms ls p → IsPlace ms ls q → ArePlaces ms ls (p ∷ (q ∷ []))

@@ -4,20 +4,10 @@ use Rattle.spi_term.specs.Term.{Leaf, Prefix, Fork, Process, leaf, prefix, fork,
 use Rattle.spi_term.specs.Names.{MessageOver, OfLeaf, OfPrefix, OfFork, ProcessOver}
 use Rattle.spi_term.specs.Spelling.{Shape, leaf_at, prefix_at, fork_at, numbered, spelled, on_one, on_two, built, first_of_all}
 use Rattle.spi_term.specs.Arena.{InScope, ScopedProcess, item, ReadsProcesses, no_node, leaf_on, prefix_on, fork_on, IsArena, scope_of}
+use Rattle.spi_term.proofs.Lists.{get_first, drop_get}
 use Rattle.spi_term.proofs.Rows.{reads_rest, reads_sound, arena_reads, arena_readable}
 use Rattle.spi_term.proofs.Numbers.{numbered_in_scope}
 use Rattle.spi_replay.specs.Holding.{subtree}
-
-get_next : (ss : List Shape) (i : ℕ) (x : Shape) → slice_get ss i ≡ Some x → drop i ss ≡ x ∷ drop (suc i) ss
-get_next [] i x e = absurd cc
-get_next (y ∷ ss) zero x e = let f : y ≡ x = cc in ap (λ z. z ∷ ss) f
-get_next (y ∷ ss) (suc i) x e = get_next ss i x e
-
-next_get : (ss : List Shape) (i : ℕ) (x : Shape) (r : List Shape) → drop i ss ≡ x ∷ r → slice_get ss i ≡ Some x
-next_get [] zero x r e = absurd cc
-next_get [] (suc i) x r e = absurd cc
-next_get (y ∷ ss) zero x r e = let f : y ≡ x = cc in ap Some f
-next_get (y ∷ ss) (suc i) x r e = next_get ss i x r e
 
 next_drop : (ss : List Shape) (i : ℕ) (x : Shape) (r : List Shape) → drop i ss ≡ x ∷ r → drop (suc i) ss ≡ r
 next_drop [] zero x r e = absurd cc
@@ -68,7 +58,7 @@ follows ss i s p st r =
     let h = heads r in
     record {
       shape = h.shape;
-      there = next_get ss i h.shape h.rest h.is;
+      there = get_first ss i h.shape h.rest h.is;
       scope = h.scope;
       within = subst (InScope s) (sym (tree_at ss i s p st r)) (reads_sound r).0.0;
     }
@@ -100,7 +90,7 @@ spelled_arena k p h = (numbered [] k p, numbered_in_scope k 0 k (omega arith) p 
 pub node_at : (k : ℕ) (p : Process) → ProcessOver k p → (i : ℕ) (x : Shape) → slice_get (spelled k p) i ≡ Some x → IsNode (spelled k p) i x
 node_at k p h i x e =
     let a = arena_readable k (spelled k p) i (spelled_arena k p h) in
-    let d = get_next (spelled k p) i x e in
+    let d = drop_get (spelled k p) i x e in
     node_from (spelled k p) i x (drop (suc i) (spelled k p)) a.0 d (read_at refl d a.1)
 
 -- the first node

@@ -1,10 +1,8 @@
 -- Steps that are taken: each has one outcome, isn't refused, and uses one name more at most.
 use Rattle.std.proofs.Common.{◌≡◌, ℕ, ◌+◌, ◌<◌, ◌≤◌, List, [], ◌∷◌, ◌++◌, length, Option, Some, None, ap, ◌∙◌, sym, arith}
 use Rattle.std.specs.Option.{option_to_list}
-use Rattle.std.proofs.lemmas.Option.{slice_get_within}
 use Rattle.spi_term.specs.Term.{Process}
-use Rattle.spi_term.specs.Lists.{At}
-use Rattle.spi_term.proofs.Lists.{at_get}
+use Rattle.spi_term.proofs.Lists.{at_below}
 use Rattle.spi_run.specs.Reduction.{Configuration, Step, Event, Acts, acts_split, acts_select, acts_inl, acts_inr, acts_decrypt, acts_check, acts_begin, acts_end, acts_end_many, acts_cast, acts_fresh, acts_par, Takes, takes_act, takes_talk, Runs, runs_silent, runs_event}
 use Rattle.spi_run.proofs.Once.{takes_once}
 use Rattle.spi_replay.specs.declared.fault.StepFault.{StepFault}
@@ -20,9 +18,6 @@ taken_once {m = m} {n = n} a b =
     (o.0, pooled_same m n o.1 (a.most ∙ sym b.most))
 
 -- the places that it names are in the pool
-at_within : {A : Type 0} {xs : List A} {i : ℕ} {x : A} → At xs i x → i < length xs
-at_within a = slice_get_within _ _ _ (at_get a)
-
 pub one_outside : {n i k : ℕ} → i < n → FirstOutside n (i ∷ []) k → ⊥
 one_outside h (outside_here m) = omega (arith, h, m)
 one_outside h (outside_later m o) = elim o [ ]
@@ -32,8 +27,8 @@ none_outside h l (outside_here m) = omega (arith, h, m)
 none_outside h l (outside_later m o) = one_outside l o
 
 pub takes_inside : {c d : Configuration} {s : Step} {e : Option Event} {k : ℕ} → Takes c s e d → FirstOutside (length c.places) (places_named s) k → ⊥
-takes_inside (takes_act a x) o = one_outside (at_within a) o
-takes_inside (takes_talk a b t) o = none_outside (at_within a) (at_within b) o
+takes_inside (takes_act a x) o = one_outside (at_below a) o
+takes_inside (takes_talk a b t) o = none_outside (at_below a) (at_below b) o
 
 -- a step that is taken isn't refused
 pub taken_never : {old new : Pooled} {s : Step} {e : Option Event} {f : StepFault} → IsTaken old s e new → RefusesPoolStep old.configuration old.most s f → ⊥

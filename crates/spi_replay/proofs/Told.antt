@@ -5,8 +5,9 @@ use Rattle.std.proofs.lemmas.Bool.{eqb-true}
 use Rattle.std.proofs.lemmas.List.{length-map}
 use Rattle.spi_term.specs.Term.{Message, same_message, Process, send, recv, serve}
 use Rattle.spi_term.specs.Spelling.{Shape}
+use Rattle.spi_term.proofs.Lists.{some_is, get_map}
 use Rattle.spi_intern.specs.Table.{AllDiffer}
-use Rattle.spi_intern.proofs.Lists.{some_one, truths}
+use Rattle.spi_intern.proofs.Lists.{truths}
 use Rattle.spi_intern.proofs.MessageLaws.{same_true, same_self}
 use Rattle.spi_run.specs.Reduction.{Step, act, talk}
 use Rattle.spi_replay.specs.declared.names.Link.{Link}
@@ -24,7 +25,6 @@ use Rattle.spi_replay.specs.Listing.{acts_now, puts_on, takes_on, is_channel, ta
 use Rattle.spi_replay.proofs.Forms.{IsQuiet, IsStill, MovesByForm, moves_stays, moves_puts, moves_takes, moves_takes_again, moves_one, moves_two, moves_on, moves_shows, moves_makes, moves_forks}
 use Rattle.spi_replay.proofs.Awaiting.{Channel, no_channel, a_channel, put_of, take_of, waits_tell}
 use Rattle.spi_replay.proofs.Does.{acting, still_of, outcome_of}
-use Rattle.spi_replay.proofs.Stepped.{get_map}
 use Rattle.spi_replay.proofs.Listed.{acts_true, true_acts}
 use Rattle.spi_replay.proofs.Begun.{few_begun, length_more, before_all, before_fits, get_begun}
 
@@ -80,7 +80,7 @@ takes_told {ms} p h = let a = acting p h in subst (Channel ms (in_channel p.wait
 pub same_channel : {ms : List Message} {o : Option ℕ} {x : Option Message} (c : ℕ) (m : Message) → AllDiffer ms → slice_get ms c ≡ Some m → Channel ms o x → is_channel m x ≡ is_on c o
 same_channel c m d e no_channel = refl
 same_channel {ms} c m d e (a_channel {c = k} {m = n} f) =
-    truths (same_message m n) (c == k) (λ g. eq-eqb c k (d.one c k m e (f ∙ ap Some (sym (same_true m n g))))) (λ g. let h : m ≡ n = some_one (sym e ∙ ap (slice_get ms) (eqb-true c k g) ∙ f) in ap (same_message m) (sym h) ∙ same_self m)
+    truths (same_message m n) (c == k) (λ g. eq-eqb c k (d.one c k m e (f ∙ ap Some (sym (same_true m n g))))) (λ g. let h : m ≡ n = some_is (sym e ∙ ap (slice_get ms) (eqb-true c k g) ∙ f) in ap (same_message m) (sym h) ∙ same_self m)
 
 module _ {ms : List Message} {ls : List Link} (differ : AllDiffer ms) where
   others : {p : Place} {ps : List Place} → ArePlaces ms ls (p ∷ ps) → ArePlaces ms ls ps
@@ -108,7 +108,7 @@ talks_at {ms} {ls} i ps p c d hs h e =
   where
     by : (o : Option ℕ) (x : Option Message) → o ≡ Some c → Channel ms o x → talks_of (processes ms ls ps) i x ≡ map (talk i) (places_on in_channel c 0 (waits_of ps))
     by _ _ e no_channel = absurd cc
-    by _ _ e (a_channel {c = k} {m = m} f) = talks_told d c m (ap (slice_get ms) (sym (some_one e)) ∙ f) i 0 ps hs
+    by _ _ e (a_channel {c = k} {m = m} f) = talks_told d c m (ap (slice_get ms) (sym (some_is e)) ∙ f) i 0 ps hs
 
 pub acts_at : {ms : List Message} {ls : List Link} (i : ℕ) (ps : List Place) (p : Place) → IsPlace ms ls p → out_channel p.wait ≡ None → steps_at (processes ms ls ps) i (place_process ms ls p) ≡ (if wait_acts p.wait then act i ∷ [] else [])
 acts_at {ms} {ls} i ps p h e =

@@ -2,16 +2,17 @@
 use Rattle.std.proofs.Common.{◌≡◌, ℕ, ◌+◌, ◌-◌, ◌<◌, ◌≤◌, Bool, true, false, List, length, Some, slice_get, refl, sym, ap, ◌∙◌, subst, arith, true≢false, ⊎_elim, eq-eqb}
 use Rattle.std.specs.Prelude.{if◌then◌else◌, ◌==◌}
 use Rattle.std.proofs.lemmas.Bool.{cases_eq, ne_eqb}
+use Rattle.std.proofs.lemmas.Option.{slice_get_within}
 use Rattle.spi_term.specs.Term.{Message, same_message, process_size, stop}
 use Rattle.spi_term.specs.Spelling.{Shape, Spelling, spelled}
 use Rattle.spi_term.specs.Arena.{scope_of}
 use Rattle.spi_term.proofs.Numbers.{length_spelled}
+use Rattle.spi_term.proofs.Lists.{some_is}
 use Rattle.spi_intern.specs.Table.{KeepsAll, AllDiffer}
 use Rattle.spi_intern.specs.Messages.{Says, says_bound, says_name, says_unit, says_pair, says_left, says_right, says_enc, says_hash}
 use Rattle.spi_intern.specs.declared.messages.MsgId.{MsgId}
 use Rattle.spi_intern.specs.declared.messages.MsgPart.{MsgPart}
 use Rattle.spi_intern.proofs.MessageLaws.{same_true, same_self}
-use Rattle.spi_intern.proofs.Lists.{get_below, some_one}
 use Rattle.spi_intern.proofs.Tables.{keeps_same}
 use Rattle.spi_replay.specs.declared.names.Link.{Link}
 use Rattle.spi_replay.specs.declared.names.Scope.{Scope}
@@ -31,7 +32,7 @@ same_by {ms} i j {m} {n} d a b = ⊎_elim same other (cases_eq i.place j.place)
   where
     same : i.place ≡ j.place → (i.place == j.place) ≡ same_message m n
     same e =
-        let f : m ≡ n = some_one (sym a ∙ ap (slice_get ms) e ∙ b) in
+        let f : m ≡ n = some_is (sym a ∙ ap (slice_get ms) e ∙ b) in
         eq-eqb i.place j.place e ∙ sym (ap (same_message m) (sym f) ∙ same_self m)
 
     by : (z : Bool) → same_message m n ≡ z → (i.place ≡ j.place → ⊥) → (i.place == j.place) ≡ z
@@ -92,7 +93,7 @@ check_waits j k {m} {n} i d a b = if_waits (j.place == k.place) (same_message m 
 
 -- a number that a call gave
 pub given_below : {old new : List Message} {ls : List Link} {sc : Scope} {m : Message} {id : MsgId} → HasNames old ls sc → IsInstance old new ls sc m id → id.place < length new
-given_below {new = new} {id = id} h x = get_below new id.place _ (x.at h.values h.stand)
+given_below {new = new} {id = id} h x = slice_get_within new id.place _ (x.at h.values h.stand)
 
 pub instance_later : {old mid new : List Message} {ls : List Link} {sc : Scope} {m : Message} {id : MsgId} → KeepsAll mid new → IsInstance old mid ls sc m id → IsInstance old new ls sc m id
 instance_later {id = id} k x = record { at = λ vs h. k.at id.place _ (x.at vs h) }
@@ -109,7 +110,7 @@ below_of (node_fork h e f g) = h
 pub enter_node : {ms : List Message} {ls : List Link} {sp : Spelling} {node last : ℕ} → CanEnter ms ls sp node last → node < process_size sp.process
 enter_node {sp = sp} {node = node} h =
     let e = h.enters in
-    let b : node < length (spelled sp.names sp.process) = get_below (spelled sp.names sp.process) node e.shape e.there in
+    let b : node < length (spelled sp.names sp.process) = slice_get_within (spelled sp.names sp.process) node e.shape e.there in
     omega (arith, b, length_spelled sp.names sp.process)
 
 -- what a node that is read says
@@ -119,7 +120,7 @@ pub record ReadShape (ms : List Message) (ls : List Link) (sp : Spelling) (node 
   pub scope : scope_of x ≡ s
 
 shape_is : {ms : List Message} {ls : List Link} {sp : Spelling} {node last s : ℕ} {x : Shape} {vs : List Message} → ReadShape ms ls sp node last x s → (e : Enters ms ls sp node last vs) → x ≡ e.shape
-shape_is r e = some_one (sym r.there ∙ e.there)
+shape_is r e = some_is (sym r.there ∙ e.there)
 
 scope_is : {ms : List Message} {ls : List Link} {sp : Spelling} {node last s : ℕ} {x : Shape} {vs : List Message} → ReadShape ms ls sp node last x s → Enters ms ls sp node last vs → s ≡ sp.names + length vs
 scope_is r e = sym r.scope ∙ ap scope_of (shape_is r e) ∙ e.scope

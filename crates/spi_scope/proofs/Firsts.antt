@@ -1,8 +1,9 @@
 -- The points of a tree taken in order: nothing is wrong, or there is one first fault.
-use Rattle.std.proofs.Common.{◌≡◌, ℕ, ◌+◌, List, [], ◌∷◌, ◌++◌, refl, sym, ap, ◌∙◌, arith, add-zero, inl, inr, ⊎_elim}
-use Rattle.std.specs.Prelude.{◌⊎◌, Option, Some, None, Ok, Err}
+use Rattle.std.proofs.Common.{◌≡◌, ℕ, ◌+◌, ◌≤◌, List, [], ◌∷◌, ◌++◌, refl, sym, ap, ◌∙◌, arith, add-zero, inl, inr, ⊎_elim}
+use Rattle.std.specs.Prelude.{◌⊎◌, Option, Some, None, Ok, Err, nat_lt, if◌then◌else◌}
+use Rattle.std.proofs.lemmas.Bool.{cases_Bool, cond-true, ltb-false}
 use Rattle.spi_scope.specs.declared.fault.ScopeFault.{ScopeFault}
-use Rattle.spi_scope.specs.Points.{Point, Points, none, one, ◌⨾◌, in_order, fault_at, added}
+use Rattle.spi_scope.specs.Points.{Point, uses_name, uses_type, declares_name, declares_type, ends_message, ends_type, adds, starts_step, Points, none, one, ◌⨾◌, in_order, fault_at, added}
 use Rattle.spi_scope.specs.First.{count_points, Clean, IsFirst}
 use Rattle.spi_scope.specs.Gives.{Ran, after, unless, run, FailsWith}
 use Rattle.spi_scope.specs.declared.fault.ScopeFault.TheVariants.{NoMemory}
@@ -55,6 +56,27 @@ clean_run [] c h = ap (λ d. Ok d) (sym (add-zero c))
 clean_run (p ∷ ps) c h =
     let e : c + added p + count_points ps ≡ c + (added p + count_points ps) = omega arith in
     ap (λ o. after (unless o (c + added p)) (run_list ps)) h.0 ∙ clean_run ps (c + added p) h.1 ∙ ap (λ d. Ok d) e
+
+-- the running count of points at which nothing is wrong is at most 100,000
+total : (c n : ℕ) (f : ScopeFault) → (if nat_lt 100000 (c + n) then Some f else None) ≡ None → c + n ≤ 100000
+total c n f h = elim (cases_Bool (nat_lt 100000 (c + n))) [
+  | inl over ↦ (let z : Some f ≡ None = sym (cond-true (nat_lt 100000 (c + n)) (Some f) None over) ∙ h in absurd cc)
+  | inr within ↦ ltb-false 100000 (c + n) within
+]
+
+still_few : (c : ℕ) (p : Point) → c ≤ 100000 → fault_at c p ≡ None → c + added p ≤ 100000
+still_few c (uses_name xs w) l h = omega (arith, l)
+still_few c (uses_type ts w) l h = omega (arith, l)
+still_few c (declares_name xs w) l h = omega (arith, l)
+still_few c (declares_type ts w) l h = omega (arith, l)
+still_few c (ends_message n s) l h = omega (arith, l)
+still_few c (ends_type n s) l h = omega (arith, l)
+still_few c (adds n s) l h = total c n _ h
+still_few c (starts_step i n s) l h = omega (arith, l)
+
+pub counted_few : (ps : List Point) (c : ℕ) → c ≤ 100000 → Clean c ps → c + count_points ps ≤ 100000
+counted_few [] c l h = omega (arith, l)
+counted_few (p ∷ ps) c l h = omega (arith, counted_few ps (c + added p) (still_few c p l h.0) h.1)
 
 -- the first fault where the count is c before the first point
 pub record FirstFrom (c : ℕ) (points : List Point) (f : ScopeFault) : Type 0 where

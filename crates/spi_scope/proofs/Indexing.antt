@@ -1,6 +1,6 @@
 -- A bound name as the number of its binder, and as an index: the process over k names that the nodes of a tree spell.
 use Rattle.std.proofs.Common.{◌≡◌, ℕ, suc, ◌+◌, ◌-◌, ◌<◌, ◌≤◌, Bool, true, false, cond, List, [], ◌∷◌, ◌++◌, length, map, refl, sym, ap, ◌∙◌, subst, arith, ⊎_elim}
-use Rattle.std.specs.Prelude.{Option, Some, None, IfSome, if◌then◌else◌}
+use Rattle.std.specs.Prelude.{Option, Some, None, IfSome}
 use Rattle.std.specs.Str.{bytes_eq}
 use Rattle.std.proofs.lemmas.Bool.{cases_lt, lt-ltb, le-ltb}
 use Rattle.spi_tree.specs.Trees as t
@@ -9,6 +9,7 @@ use Rattle.spi_term.specs.Substitution.{effect_map, ty_map, leaf_map}
 use Rattle.spi_term.specs.Names.{MessageOver, OfAtom, OfEffect, OfTy, TyOver, ProcessOver}
 use Rattle.spi_term.specs.Spelling.{index_message, indexed, flat, numbered, SpellsProcess}
 use Rattle.spi_term.specs.Arena.{InScope}
+use Rattle.spi_term.proofs.Choices.{if_yes, if_no}
 use Rattle.spi_term.proofs.Numbers.{index_low, index_high, index_kept, number_index, over_indexed}
 use Rattle.spi_term.proofs.Terms.{over_more_ty, loose_ty}
 use Rattle.spi_scope.specs.Scope.{Word, Names, number_of, Abbreviation, Abbreviations, type_of}
@@ -18,13 +19,7 @@ use Rattle.spi_scope.specs.Over.{AreAbbreviationsOver}
 use Rattle.spi_tree.specs.declared.tree.SWord.{SWord}
 use Rattle.spi_scope.proofs.Tables.{number_below}
 
-if_yes : {A : Type 0} {b : Bool} (x y : A) → b ≡ true → (if b then x else y) ≡ x
-if_yes x y e = rw e
-
-if_no : {A : Type 0} {b : Bool} (x y : A) → b ≡ false → (if b then x else y) ≡ y
-if_no x y e = rw e
-
-named_low : (k s x : ℕ) → x < k → name_meant k s (Some x) ≡ name x
+pub named_low : (k s x : ℕ) → x < k → name_meant k s (Some x) ≡ name x
 named_low k s x h = if_yes (name x) (bound (s - suc x)) (lt-ltb x k h)
 
 named_high : (k s x : ℕ) → k ≤ x → name_meant k s (Some x) ≡ bound (s - suc x)
@@ -138,7 +133,7 @@ in_scope n ts o s f xs e (t.new _ x a p) = (at_type n ts o s f xs e a, in_scope 
 in_scope n ts o s f xs e (t.stop _) = tt
 
 -- abbreviations are over the free names
-more_over : (n m : ℕ) → n ≤ m → (ts : Abbreviations) → AreAbbreviationsOver n ts → AreAbbreviationsOver m ts
+pub more_over : (n m : ℕ) → n ≤ m → (ts : Abbreviations) → AreAbbreviationsOver n ts → AreAbbreviationsOver m ts
 more_over n m h [] o = tt
 more_over n m h (u ∷ ts) o = (over_more_ty n m h 0 u.stands_for o.0, more_over n m h ts o.1)
 

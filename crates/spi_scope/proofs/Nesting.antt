@@ -1,5 +1,5 @@
 -- Tuples: nesting to the right, and rows of components.
-use Rattle.std.proofs.Common.{◌≡◌, ℕ, zero, suc, ◌≤◌, drop, List, [], ◌∷◌, ◌++◌, length, map, Bool, true, false, cond, refl, sym, ap, ◌∙◌, subst, arith, append_assoc, add-zero}
+use Rattle.std.proofs.Common.{◌≡◌, ℕ, zero, suc, List, [], ◌∷◌, ◌++◌, length, map, Bool, true, false, cond, refl, sym, ap, ◌∙◌, subst, arith, append_assoc, add-zero}
 use Rattle.std.proofs.lemmas.List.{map_push}
 use Rattle.spi_term.specs.Term.{Message, pair, Ty, pair_ty}
 use Rattle.spi_term.specs.View.{message, ty}
@@ -45,12 +45,6 @@ popped_type old new part z e =
 pub none_left : {A : Type 0} (xs : List A) → length xs ≡ 0 → xs ≡ []
 none_left [] e = refl
 none_left (x ∷ xs) e = absurd (omega arith)
-
-pub drop_past : {A : Type 0} (xs : List A) (n : ℕ) → length xs ≤ n → drop n xs ≡ []
-drop_past [] zero h = refl
-drop_past [] (suc n) h = refl
-drop_past (x ∷ xs) zero h = absurd (omega arith)
-drop_past (x ∷ xs) (suc n) h = drop_past xs n (omega arith)
 
 -- an abbreviation by its spelling
 pub type_is_found : (es : List (Bor (List ℕ) × Abbr)) (w : Word) → type_of (map abbreviation es) w ≡ option_map (λ a. ty a.ty) (lookup (λ k. bytes_eq w k.now) es)

@@ -1,5 +1,5 @@
 -- The premises of a rule use inside a derivation are seen as their list.
-use Rattle.std.proofs.Common.{◌≡◌, List, [], ◌∷◌, ◌++◌, map, refl, sym, ap, ◌∙◌, append_assoc}
+use Rattle.std.proofs.Common.{◌≡◌, List, [], ◌∷◌, ◌++◌, map, sym, ap, ◌∙◌, append_assoc}
 use Rattle.std.specs.Prelude.{Option}
 use Rattle.std.proofs.lemmas.List.{map_push}
 use Rattle.spi_term.specs.Term.{Effect}
@@ -7,13 +7,10 @@ use Rattle.spi_rules.specs.declared.rule.Rule.{Rule}
 use Rattle.spi_rules.specs.declared.deriv.RuleUse as declared
 use Rattle.spi_rules.specs.Derivations.{RuleUse}
 use Rattle.spi_rules.specs.Deriv.{effect_written, rule_use}
-use Rattle.spi_tree.specs.declared.tree.SDeriv.{SDeriv, SDeriv', out-SDeriv, Row_of-SDeriv, end_of-SDeriv, more_of-SDeriv, items-the_row-SDeriv, items_shown-the_row-SDeriv-0}
+use Rattle.spi_tree.specs.declared.tree.SDeriv.{SDeriv, SDeriv', out-SDeriv, items_shown-the_row-SDeriv-0}
 use Rattle.spi_tree.specs.Trees as t
-use Rattle.spi_tree.specs.Views.{tree_effect, deriv_of, derivs_of_row}
-
-row_of_derivs : (n : _) (row : Row_of-SDeriv n) → t.derivs_of_list (map deriv_of (items-the_row-SDeriv n row)) ≡ derivs_of_row row
-row_of_derivs n end_of-SDeriv = refl
-row_of_derivs n (more_of-SDeriv d rest) = ap (t.more_derivs (deriv_of d)) (row_of_derivs _ rest)
+use Rattle.spi_tree.specs.Views.{tree_effect, deriv_of}
+use Rattle.spi_tree.proofs.Rows.{row_of_derivs}
 
 pub deriv_is : (d : SDeriv) → deriv_of d ≡ t.rule (out-SDeriv d).span (out-SDeriv d).rule (tree_effect (out-SDeriv d).effect) (t.derivs_of_list (map deriv_of (out-SDeriv d).premises.items))
 unfolding out-SDeriv denote.Hole.Carrier.out

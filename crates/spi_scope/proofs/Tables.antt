@@ -1,5 +1,5 @@
 -- The table of names after a name comes into scope or goes out of it.
-use Rattle.std.proofs.Common.{◌≡◌, ℕ, zero, suc, drop, ◌-◌, ◌+◌, ◌^◌, ◌<◌, List, [], ◌∷◌, ◌++◌, length, reverse, Bool, true, false, cond, refl, sym, ap, ◌∙◌, subst, arith}
+use Rattle.std.proofs.Common.{◌≡◌, ℕ, suc, drop, ◌-◌, ◌+◌, ◌^◌, ◌<◌, List, [], ◌∷◌, ◌++◌, length, reverse, Bool, true, false, cond, refl, sym, ap, ◌∙◌, subst, arith}
 use Rattle.std.specs.Prelude.{Option, Some, None, slice_get, IfSome, Result, Ok, Err, OnOk, OnErr}
 use Rattle.std.specs.declared.alloc.AllocError.{AllocError}
 use Rattle.spi_scope.specs.Chains.{chain_at, found_names}
@@ -7,7 +7,9 @@ use Rattle.std.specs.Str.{bytes_eq}
 use Rattle.std.proofs.lemmas.List.{reverse-append, reverse-reverse, length-reverse, length-map, length-append}
 use Rattle.std.proofs.lemmas.Slice.Eq.{bytes_eq-Decides}
 use Rattle.std.proofs.lemmas.Map.Text.{hash_map_updates_str}
+use Rattle.std.proofs.lemmas.Option.{slice_get_within}
 use Rattle.indexmap.specs.IndexMap.{IndexMap, get_by, UpdatesBy}
+use Rattle.spi_term.proofs.Lists.{get_append}
 use denote.Ref.{Bor}
 use Rattle.spi_scope.specs.Scope.{Word, Names, number_of, outer_names}
 use Rattle.spi_scope.specs.declared.names.Held.{Held}
@@ -77,28 +79,18 @@ pushed_names old new w chain p =
 pub popped_names : (old new : List Held) → IsPopped old new → spellings (reverse new) ≡ outer_names (spellings (reverse old))
 popped_names old new p = sym (ap (λ l. outer_names (spellings (reverse l))) p.is ∙ ap (λ l. outer_names (spellings l)) (reverse_push new p.held))
 
-get_front : {A : Type 0} (xs ys : List A) (i : ℕ) (x : A) → slice_get xs i ≡ Some x → slice_get (xs ++ ys) i ≡ Some x
-get_front [] ys i x e = absurd (cc)
-get_front (y ∷ xs) ys zero x e = e
-get_front (y ∷ xs) ys (suc i) x e = get_front xs ys i x e
-
 pub get_last : {A : Type 0} (xs : List A) (x : A) (i : ℕ) → i ≡ length xs → slice_get (xs ++ x ∷ []) i ≡ Some x
 get_last [] x i e = ap (slice_get (x ∷ [])) e
 get_last (y ∷ xs) x i e = ap (slice_get ((y ∷ xs) ++ x ∷ [])) e ∙ get_last xs x (length xs) refl
 
 pub begin_more : (cs ds : List Names) (es : List Held) → Begin cs es → Begin (cs ++ ds) es
-begin_more cs ds [] h = get_front cs ds 0 [] h
-begin_more cs ds (e ∷ es) h = (get_front cs ds e.chain (spellings (e ∷ es)) h.0, begin_more cs ds es h.1)
+begin_more cs ds [] h = get_append cs ds 0 [] h
+begin_more cs ds (e ∷ es) h = (get_append cs ds e.chain (spellings (e ∷ es)) h.0, begin_more cs ds es h.1)
 
 -- the chain of all names
 pub top_is : (cs : List Names) (es : List Held) → Begin cs es → slice_get cs (top es) ≡ Some (spellings es)
 top_is cs [] h = h
 top_is cs (e ∷ es) h = h.0
-
-pub get_within : {A : Type 0} (xs : List A) (i : ℕ) (x : A) → slice_get xs i ≡ Some x → i < length xs
-get_within [] i x e = absurd (cc)
-get_within (y ∷ xs) zero x e = omega arith
-get_within (y ∷ xs) (suc i) x e = let h = get_within xs i x e in omega arith
 
 pub begin_pushed : (cs : List Names) (old new : List Held) (w : Word) (chain : ℕ) → Begin cs (reverse old) → IsPushed old new w chain → chain ≡ length cs → Begin (cs ++ (w ∷ spellings (reverse old)) ∷ []) (reverse new)
 begin_pushed cs old new w chain b p e =
@@ -128,7 +120,7 @@ begin_bound cs ds old new w chain outer r b eo ed ec ok err =
     by (Err e) ok err = subst (λ l. Begin (cs ++ (w ∷ spellings (reverse old)) ∷ []) (reverse l)) (sym err) (begin_more cs ((w ∷ spellings (reverse old)) ∷ []) (reverse old) b)
 
 pub top_within : (cs : List Names) (es : List Held) → Begin cs es → top es < length cs
-top_within cs es b = get_within cs (top es) (spellings es) (top_is cs es b)
+top_within cs es b = slice_get_within cs (top es) (spellings es) (top_is cs es b)
 
 spellings_push : (es : List Held) (e : Held) → spellings (es ++ e ∷ []) ≡ spellings es ++ e.word.now ∷ []
 spellings_push [] e = refl

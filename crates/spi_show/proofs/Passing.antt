@@ -64,7 +64,7 @@ output_first (leaf Stops) i n more = refl
 output_first (prefix s p) i n more = refl
 output_first (fork f p q) i n more = refl
 
-flat_at : (p : Process) {i j k n : ℕ} → i ≡ j → k ≡ n → flat i k p ≡ flat j n p
+pub flat_at : (p : Process) {i j k n : ℕ} → i ≡ j → k ≡ n → flat i k p ≡ flat j n p
 flat_at p {i} {j} {k} {n} h g = ap (λ i. flat i k p) h ∙ ap (λ k. flat j k p) g
 
 nodes_at : (ts : List ShownTask) {i j : ℕ} → i ≡ j → shown_nodes i ts ≡ shown_nodes j ts

@@ -1,20 +1,20 @@
 -- Along a run from a balanced account, each end is paid: so a derivable process is robustly safe.
-use Rattle.std.proofs.Common.{◌≡◌, refl, sym, ◌∙◌, ap, subst, ℕ, zero, suc, ◌+◌, ◌<◌, ◌≤◌, ◌⊎◌, inl, inr, List, [], ◌∷◌, ◌++◌, length, ⊎_elim, arith, if◌then◌else◌, Some, zero-le}
+use Rattle.std.proofs.Common.{◌≡◌, sym, ◌∙◌, ap, subst, ℕ, ◌+◌, ◌<◌, ◌≤◌, ◌⊎◌, inl, inr, List, [], ◌∷◌, ◌++◌, length, ⊎_elim, arith, if◌then◌else◌, Some, zero-le}
 use Rattle.spi_term.proofs.Lists.{in_cases}
-use Rattle.spi_term.specs.Lists.{At, at_first, at_later, In, in_first, in_later}
-use Rattle.spi_term.specs.Term.{Message, same_message, Ty, un, Process}
+use Rattle.spi_term.specs.Lists.{At, In, in_first, in_later}
+use Rattle.spi_term.specs.Term.{Message, same_message, Ty, Process}
 use Rattle.spi_term.specs.Names.{TyOver, ProcessOver}
 use Rattle.spi_effect.proofs.Laws.{within_refl, within_tally}
 use Rattle.spi_rules.specs.Environment.{untrusted}
 use Rattle.spi_rules.specs.Processes.{IsGenerative}
 use Rattle.spi_rules.specs.Derivations.{Derivable}
-use Rattle.spi_rules.proofs.Typing.{at_below}
+use Rattle.spi_rules.proofs.Typing.{length_untrusted, at_untrusted, at_below}
 use Rattle.spi_run.specs.Reduction.{Configuration, Step, Event, begun, ended, ended_many, Runs, runs_none, runs_silent, runs_event}
 use Rattle.spi_run.specs.Safety.{begins_of, ends_of, RobustlySafe, RobustlySafeMany}
 use Rattle.spi_run.specs.Opponent.{IsOpponent}
 use Rattle.spi_sound.specs.Account.{Account, IsAccount, first_account}
 use Rattle.spi_rules.proofs.Paying.{Pays, has_pays}
-use Rattle.spi_sound.proofs.Opponents.{all_un_untrusted, opponent_derivable, length_untrusted}
+use Rattle.spi_sound.proofs.Opponents.{all_un_untrusted, opponent_derivable}
 use Rattle.spi_sound.proofs.Weakening.{pays_lifted}
 use Rattle.spi_sound.proofs.Places.{pay_none, pay_one}
 use Rattle.spi_sound.proofs.BalanceOfActs.{Books, scoped}
@@ -92,14 +92,9 @@ run_many {a = a} h f (runs_event {e = e} t r) early late m g =
     let after = held_step h f t in
     many_event a after.account e after.books (run_many after.held after.names r) early late m g
 
-untrusted_un : (n : ℕ) {x : ℕ} {t : Ty} → At (untrusted n) x t → t ≡ un
-untrusted_un zero b = elim b [ ]
-untrusted_un (suc n) at_first = refl
-untrusted_un (suc n) (at_later b) = untrusted_un n b
-
 pub is_first : (n : ℕ) → IsAccount (first_account n)
 is_first n = record {
-  types = λ x t b. subst (λ u. IsGenerative u × TyOver (length (untrusted n)) u) (sym (untrusted_un n b)) (tt, tt);
+  types = λ x t b. subst (λ u. IsGenerative u × TyOver (length (untrusted n)) u) (sym (at_untrusted n b)) (tt, tt);
   casts = λ m fs i. elim i [ ];
   unchecked = λ x h. cc;
 }
@@ -108,7 +103,7 @@ is_first n = record {
 pub derivable_pays : (k n : ℕ) (p : Process) → k ≤ n → Derivable (untrusted k) p [] → Pays [] (untrusted n) p []
 derivable_pays k n p le d =
     pays_lifted (scoped (is_first k)) (λ c i. i)
-    (λ x t b. subst (λ u. At (untrusted n) x u) (sym (untrusted_un k b)) ((all_un_untrusted n).at x (lower b)))
+    (λ x t b. subst (λ u. At (untrusted n) x u) (sym (at_untrusted k b)) ((all_un_untrusted n).at x (lower b)))
     (subst (λ j. j ≤ length (untrusted n)) (sym (length_untrusted k)) (subst (λ j. k ≤ j) (sym (length_untrusted n)) le))
     d.over tt (has_pays d.has)
   where

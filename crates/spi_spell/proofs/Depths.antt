@@ -5,7 +5,7 @@ use Rattle.std.proofs.lemmas.Bool.{le-ltb}
 use Rattle.spi_lex.specs.declared.token.Kind.TheVariants as kinds
 use Rattle.spi_lex.specs.declared.token.Mark.TheVariants as mark
 use Rattle.spi_tree.specs.Trees as t
-use Rattle.spi_tree.specs.Pieces.{Piece, opens, cell, closes, a_mark, a_number, a_token, Place, in_seq, at_level, nesting_of, below, message_limit, process_limit, msg_pieces, msgs_pieces, atom_pieces, atoms_pieces, effect_pieces, ty_pieces, fields_pieces, last_pieces, named_pieces, binder_pieces, proc_pieces, words_pieces, decls_pieces, step_pieces, steps_pieces, written_pieces, deriv_pieces, derivs_pieces, version_pieces, opponent_pieces, schedule_pieces, derivation_pieces}
+use Rattle.spi_tree.specs.Pieces.{Piece, closes, a_mark, a_number, a_token, Place, in_seq, at_level, nesting_of, below, message_limit, process_limit, msg_pieces, msgs_pieces, atom_pieces, atoms_pieces, effect_pieces, ty_pieces, fields_pieces, last_pieces, named_pieces, binder_pieces, proc_pieces, words_pieces, decls_pieces, step_pieces, steps_pieces, written_pieces, deriv_pieces, derivs_pieces, version_pieces, opponent_pieces, schedule_pieces, derivation_pieces}
 use Rattle.spi_parse.specs.Exact.{IsWithin}
 use Rattle.spi_parse.specs.Formed.{whole_file}
 use Rattle.spi_term.specs.Term.{Message, bound, name, unit, pair, in_left, in_right, enc, hash, Atom, ends, checks, many, Effect, Ty, un, unit_ty, pair_ty, sum_ty, key, nonce, Leaf, Sends, Stops, Prefix, Recvs, Serves, Splits, Selects, Decrypts, Checks, Begins, Ends, EndManys, Casts, Freshes, Branches, Pars, Process, leaf, prefix, fork, binds, message_size}
@@ -19,6 +19,7 @@ use Rattle.spi_show.specs.Spelled.{name_text}
 use Rattle.spi_show.specs.Processes.{Standing, alone, sequel}
 use Rattle.spi_tree.proofs.Same.{same_effect}
 use Rattle.spi_gen.specs.Handshake.{word}
+use Rattle.spi_spell.proofs.Past.{skip_one}
 use Rattle.spi_spell.proofs.Shallow.{ArePointsSmall, small}
 use Rattle.spi_spell.proofs.Printed.{twice, spelled_name, numbered_name, message_tree, second_tree, rest_trees, atom_tree, atom_trees, type_tree, field_trees, last_tree, leaf_tree, prefix_tree, process_tree, free_trees, part_tree, opponent_tree, step_tree, schedule_tree, written_tree, deriv_tree, deriv_trees, derivation_tree, file_tree}
 use Rattle.spi_spell.proofs.Printable.{MessageFits, TyFits, LeafFits, PrefixFits, ForkFits, ProcessFits, Nests, IsPrintablePart, IsOpponentPart, is_later_file, IsPrintable}
@@ -190,15 +191,9 @@ written_within : (o : Option (List t.Atom)) (r : List Piece) → ArePointsSmall 
 written_within None r f h = h
 written_within (Some es) r f h = effect_within numbered_name number_within (map numbered_atom es) 0 0 r (low_atoms es f) h
 
--- what follows pieces is within the limits where they are
-behind_piece : (r : List Piece) (p : Piece) (x y : List Piece) → (IsWithin x → IsWithin r) → IsWithin (p ∷ x) → IsWithin r
-behind_piece r (opens from) x y go h = go h
-behind_piece r (cell k deep) x y go h = go h.1
-behind_piece r (closes to) x y go h = go h
-
 behind_written : (o : Option (List t.Atom)) (r : List Piece) → IsWithin (written_pieces o r) → IsWithin r
 behind_written None r h = h
-behind_written (Some es) r h = same_effect (λ x y. IsWithin x → IsWithin r) (behind_piece r) 0 es {x = r} {y = r} (λ k. k) h
+behind_written (Some es) r h = same_effect (λ x y. IsWithin x → IsWithin r) (skip_one r) 0 es {x = r} {y = r} (λ k. k) h
 
 mutual
   deriv_within : (d : t.Deriv) (n : ℕ) (r : List Piece) → IsWithin (deriv_pieces n d r) → ArePointsSmall (deriv_points d) → IsWithin r × ((q : List Piece) → IsWithin q → IsWithin (deriv_pieces n (deriv_tree d) q))

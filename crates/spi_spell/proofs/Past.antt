@@ -8,7 +8,8 @@ use Rattle.spi_tree.specs.Pieces.{Piece, opens, cell, closes, Place, msg_pieces,
 use Rattle.spi_parse.specs.Exact.{IsWithin}
 use Rattle.spi_tree.proofs.Same.{same_msg, same_named, same_binder, same_proc, same_decls, same_version, same_opponent, same_schedule}
 
-skip_one : (r : List Piece) (p : Piece) (x y : List Piece) → (IsWithin x → IsWithin r) → IsWithin (p ∷ x) → IsWithin r
+-- what follows pieces is within the limits where they are
+pub skip_one : (r : List Piece) (p : Piece) (x y : List Piece) → (IsWithin x → IsWithin r) → IsWithin (p ∷ x) → IsWithin r
 skip_one r (opens from) x y f h = f h
 skip_one r (cell kind deep) x y f h = f h.1
 skip_one r (closes to) x y f h = f h

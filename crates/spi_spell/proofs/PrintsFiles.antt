@@ -15,6 +15,7 @@ use Rattle.spi_tree.specs.Formed.{AreWordsFit, IsDerivation}
 use Rattle.spi_parse.specs.Formed.{IsFormedDerived}
 use Rattle.spi_parse.proofs.LiveLaws.{version_fit}
 use Rattle.spi_parse.proofs.Lexed.{kinds_fit}
+use Rattle.spi_parse.proofs.Versions.{reserved_first}
 use Rattle.spi_term.specs.Spelling.{Spelling}
 use Rattle.spi_gen.specs.Handshake.{word}
 use Rattle.spi_run.specs.Reduction.{Step, act, talk}
@@ -26,7 +27,6 @@ use Rattle.spi_show.specs.Steps.{step_text, steps_text}
 use Rattle.spi_show.specs.Derivations.{uses_text}
 use Rattle.spi_show.specs.Files.{words_text, free_text, spelling_line, opponent_text, schedule_part, derivation_part, file_text}
 use Rattle.spi_spell.specs.Joined.{HasLowPlaces}
-use Rattle.spi_spell.proofs.Together.{reserved_first}
 use Rattle.spi_spell.proofs.Texts.{act_kind, talk_kind}
 use Rattle.spi_spell.proofs.Printed as printed
 use Rattle.spi_spell.proofs.Printed.{free_trees, part_tree, opponent_tree, step_tree, schedule_tree, derivation_tree, file_tree}

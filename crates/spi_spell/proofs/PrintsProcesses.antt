@@ -10,13 +10,14 @@ use Rattle.spi_tree.specs.Pieces.{Piece, Place, below, beside_place, a_reserved,
 use Rattle.spi_term.specs.Term.{Message, Ty, Leaf, Sends, Stops, Prefix, Recvs, Serves, Splits, Selects, Decrypts, Checks, Begins, Ends, EndManys, Casts, Freshes, Branches, Pars, Process, leaf, prefix, fork, binds}
 use Rattle.spi_term.specs.Names.{MessageOver, OfTy, OfLeaf, OfPrefix, OfProcess}
 use Rattle.spi_term.specs.Spelling.{ty_nodes}
+use Rattle.spi_term.proofs.Sizes.{some_message}
 use Rattle.spi_gen.specs.Handshake.{word}
 use Rattle.spi_show.specs.Terms.{message_text, typed_text, type_text}
 use Rattle.spi_show.specs.Processes.{leaf_text, prefix_text, left_text, right_text, Standing, alone, sequel, is_output, process_text}
 use Rattle.spi_spell.proofs.Printed.{spelled_name, message_tree, type_tree, leaf_tree, prefix_tree, then_tree, process_tree}
 use Rattle.spi_spell.proofs.Printed as printed
 use Rattle.spi_spell.proofs.Printable.{MessageFits, TyFits, LeafFits, PrefixFits, ProcessFits, prefix_nodes, process_nodes}
-use Rattle.spi_spell.proofs.Counts.{some_size, binds_few}
+use Rattle.spi_spell.proofs.Counts.{binds_few}
 use Rattle.spi_spell.proofs.Prints as prints
 use Rattle.spi_spell.proofs.Prints.{Prints}
 use Rattle.spi_spell.proofs.PrintsTerms.{PrintsInScope}
@@ -61,7 +62,7 @@ module _ (later : Bool) (top : ℕ) (spell : ℕ → List ℕ) (fit : (i : ℕ) 
   one_prefix k d n at (Splits m a b) q scope few o v r more p =
       prints.keyword word.Split refl refl (prints.space (prints.part (message_text spell n m) _ more (message m scope o.0 v.0 _ _ refl (prints.space (prints.keyword word.Is refl refl (prints.space (prints.mark mark.ParenOpen
       (prints.part (typed_text spell n (type_text spell n a)) _ more (named n a (omega arith) scope (omega arith) o.1 v.1 _ _ refl (prints.mark mark.Comma (prints.space
-      (prints.part (typed_text spell (suc n) (type_text spell (suc n) b)) _ more (named (suc n) b (omega (arith, some_size m)) (inner scope (omega arith)) (omega (arith, some_size m)) o.2 v.2 _ _ refl
+      (prints.part (typed_text spell (suc n) (type_text spell (suc n) b)) _ more (named (suc n) b (omega (arith, some_message m)) (inner scope (omega arith)) (omega (arith, some_message m)) o.2 v.2 _ _ refl
       (prints.mark mark.ParenClose (prints.mark mark.Semicolon (prints.space p))))))))))))))))
   one_prefix k d n at (Selects m a j b) q scope few o v r more p =
       prints.keyword word.Match refl refl (prints.space (prints.part (message_text spell n m) _ more (message m scope o.0 v.0 _ _ refl (prints.space (prints.keyword word.Is refl refl (prints.space (prints.mark mark.ParenOpen

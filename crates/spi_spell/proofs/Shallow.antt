@@ -9,6 +9,7 @@ use Rattle.spi_tree.specs.Pieces.{Piece, Place, in_seq, at_level, nesting_of, le
 use Rattle.spi_tree.specs.Formed.{IsMsg, AreMsgs, IsProc}
 use Rattle.spi_parse.specs.Exact.{IsWithin}
 use Rattle.spi_term.specs.Term.{Message, Process, leaf, prefix, fork, message_size}
+use Rattle.spi_term.proofs.Sizes.{some_message}
 use Rattle.spi_scope.specs.declared.fault.ScopeFault.{ScopeFault}
 use Rattle.spi_scope.specs.Scope.{Names, number_of, Abbreviations}
 use Rattle.spi_scope.specs.Meaning.{name_meant, nested, message_in, messages_in, process_in}
@@ -17,7 +18,6 @@ use Rattle.spi_scope.specs.First.{Clean}
 use Rattle.spi_scope.proofs.Sizes.{message_sized}
 use Rattle.spi_spell.proofs.Fitting.{MessageFitsIn, FitsNesting, bound_put}
 use Rattle.spi_spell.proofs.Past.{past_msg, past_named, past_binder, past_proc}
-use Rattle.spi_spell.proofs.Counts.{some_size}
 
 -- ---- no message is too large
 
@@ -104,7 +104,7 @@ name_fits later n k s (Some x) h = bound_put later n x (s - suc x) (nat_lt x k) 
 module _ (later : Bool) (k : ℕ) (xs : Names) where
   mutual
     msg_fits : (m : t.Msg) (n : ℕ) → IsMsg later false m → n + message_size (message_in k xs m) ≤ 1001 → MessageFitsIn later n (message_in k xs m)
-    msg_fits (t.name s w) n h low = (let some = some_size (name_meant k (length xs) (number_of xs w.word)) in name_fits later n k (length xs) (number_of xs w.word) (omega arith))
+    msg_fits (t.name s w) n h low = (let some = some_message (name_meant k (length xs) (number_of xs w.word)) in name_fits later n k (length xs) (number_of xs w.word) (omega arith))
     msg_fits (t.unit s) n h low = omega arith
     msg_fits (t.tuple s a b ms) n h low =
         (omega arith, msg_fits a (n + 1) h.0 (omega arith), row_fits (message_in k xs b) ms (λ i q. msg_fits b i h.1 q) (n + 1) h.2 (omega arith))

@@ -18,13 +18,14 @@ use Rattle.spi_scope.specs.Points.{Points, in_order, process_points, opponent_po
 use Rattle.spi_scope.specs.Over.{AreAbbreviationsOver}
 use Rattle.spi_scope.specs.StandsFor.{Meant, StandsFor, over_free, opponent_over}
 use Rattle.spi_scope.proofs.Counting.{run_weight, names_weigh, PassesTests, passed}
+use Rattle.spi_scope.proofs.Firsts.{counted_few}
 use Rattle.spi_scope.proofs.Indexing.{nodes_spell}
 use Rattle.spi_scope.proofs.Made.{types_over}
 use Rattle.spi_spell.proofs.Printable.{IsPrintablePart, IsOpponentPart, AreDistinct, AreSteps, process_nodes, opponent_nodes, is_later_file, IsPrintable}
 use Rattle.spi_spell.proofs.Past.{past_decls, past_version, past_proc, past_opponent, past_schedule, behind_version, behind_decls, behind_proc, behind_opponent, behind_schedule}
 use Rattle.spi_spell.proofs.Nesting.{nests}
 use Rattle.spi_spell.proofs.Fitted.{TypesFit, process_fits, types_fit}
-use Rattle.spi_spell.proofs.Weighed.{nodes_weigh, opponent_weighs, counted_few, runs}
+use Rattle.spi_spell.proofs.Weighed.{nodes_weigh, opponent_weighs, runs}
 use Rattle.spi_spell.proofs.Declared.{are_new, names_distinct, reverse_distinct, names_words, reverse_words}
 use Rattle.spi_spell.proofs.Behind.{schedule_stands, derivation_clean, derivation_within, derivation_kinds}
 

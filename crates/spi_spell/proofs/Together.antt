@@ -17,6 +17,7 @@ use Rattle.spi_lex.specs.Lexing.{LexPiece, Leads, word_kind, kind_of, token_of, 
 use Rattle.spi_lex.specs.Writing.{Writes, blank, IsKind, first_version}
 use Rattle.spi_lex.proofs.Reached.{joined}
 use Rattle.spi_lex.proofs.Writing.{reads_back}
+use Rattle.spi_parse.proofs.Versions.{reserved_first}
 use Rattle.spi_spell.proofs.Feeds.{leads_on, moved_piece, leads_moved}
 
 -- the pieces of bytes that have these tokens
@@ -35,11 +36,6 @@ view tokens (bad_number n value u h l s most) e = absurd cc
 view tokens (name_too_long n name u h l s long) e = absurd cc
 
 -- ---- which words are reserved
-
-pub reserved_first : (w : Reserved) (ks : List Kind) → is_version_2 (kinds.Reserved w ∷ ks) ≡ false
-reserved_first w [] = refl
-reserved_first w (b ∷ []) = refl
-reserved_first w (b ∷ c ∷ ks) = refl
 
 and_false : (b : Bool) → (b && false) ≡ false
 and_false true = refl

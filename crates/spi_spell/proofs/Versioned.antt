@@ -3,28 +3,19 @@ use Rattle.std.proofs.Common.{◌≡◌, Bool, true, false, List, [], ◌∷◌,
 use Rattle.std.specs.List.{AllByRecursion}
 use Rattle.spi_lex.specs.declared.token.Kind.{Kind}
 use Rattle.spi_lex.specs.declared.token.Reserved.TheVariants as word
-use Rattle.spi_lex.specs.declared.token.Mark.TheVariants as mark
 use Rattle.spi_lex.specs.Words.{words_of}
 use Rattle.spi_lex.specs.Lexing.{is_version_2}
 use Rattle.spi_lex.specs.Writing.{IsKind, AreKinds, first_version, later_version}
 use Rattle.spi_tree.specs.Trees as t
-use Rattle.spi_tree.specs.Pieces.{Piece, closes, a_mark, a_word, a_reserved, at_level, kinds_in, tokens_of, ty_pieces, words_pieces, decls_pieces, proc_pieces, opponent_pieces, schedule_pieces, derivation_pieces}
+use Rattle.spi_tree.specs.Pieces.{Piece, closes, a_reserved, at_level, kinds_in, tokens_of, decls_pieces, proc_pieces, opponent_pieces, schedule_pieces, derivation_pieces}
 use Rattle.spi_tree.specs.Formed.{is_later}
 use Rattle.spi_parse.proofs.LiveLaws.{version_fit}
-use Rattle.spi_spell.proofs.Together.{reserved_first}
+use Rattle.spi_parse.proofs.Versions.{plain_decls}
 use Rattle.spi_spell.proofs.PrintsFiles.{with_version}
 
 kinds_of_version : (ks : List Kind) → AreKinds ks → AllByRecursion (IsKind (words_of (is_version_2 ks))) ks
 kinds_of_version ks (first_version old h) = subst (λ (v : Bool). AllByRecursion (IsKind (words_of v)) ks) (sym old) h
 kinds_of_version ks (later_version h) = (version_fit, (omega arith, (tt, h)))
-
--- what stands behind the version doesn't begin as one
-no_version : (ds : List t.Declared) (r : List Piece) → is_version_2 (kinds_in (decls_pieces ds (a_reserved word.Process r))) ≡ false
-no_version [] r = reserved_first word.Process (kinds_in r)
-no_version (t.free s w ws ∷ ds) r =
-    reserved_first word.Free (kinds_in (a_word false w (words_pieces ws (a_mark mark.Semicolon (closes s.to ∷ decls_pieces ds (a_reserved word.Process r))))))
-no_version (t.abbreviated s w a ∷ ds) r =
-    reserved_first word.TypeWord (kinds_in (a_word false w (a_mark mark.Equals (ty_pieces 1 a (a_mark mark.Semicolon (closes s.to ∷ decls_pieces ds (a_reserved word.Process r)))))))
 
 abbrev file_body : t.File → List Piece
 file_body f = decls_pieces f.decls (a_reserved word.Process (proc_pieces (at_level 0) f.process (opponent_pieces f.opponent (schedule_pieces f.schedule (derivation_pieces f.derivation (closes f.span.to ∷ []))))))
@@ -35,5 +26,5 @@ versioned false r none = none
 
 pub tree_fit : (tree : t.File) → AreKinds (tokens_of tree) → AllByRecursion (IsKind (words_of (is_later tree))) (tokens_of tree)
 tree_fit tree are =
-    let same = versioned (is_later tree) (file_body tree) (no_version tree.decls _) in
+    let same = versioned (is_later tree) (file_body tree) (plain_decls tree.decls _) in
     subst (λ (v : Bool). AllByRecursion (IsKind (words_of v)) (tokens_of tree)) same (kinds_of_version (tokens_of tree) are)

@@ -1,16 +1,14 @@
 -- What a tree stands for has at most as many nodes as its points add to the running count.
-use Rattle.std.proofs.Common.{◌≡◌, ℕ, ◌+◌, ◌≤◌, List, [], ◌∷◌, length, arith, sym, ◌∙◌, inl, inr, Option, Some, None}
-use Rattle.std.specs.Prelude.{Ok, nat_lt, if◌then◌else◌}
-use Rattle.std.proofs.lemmas.Bool.{cases_Bool, cond-true, ltb-false}
+use Rattle.std.proofs.Common.{◌≡◌, ℕ, ◌+◌, ◌≤◌, ◌∷◌, length, arith, ◌∙◌, Option, Some, None}
+use Rattle.std.specs.Prelude.{Ok}
 use Rattle.spi_text.specs.declared.lines.Span.{Span}
 use Rattle.spi_tree.specs.declared.tree.SWord.{SWord}
 use Rattle.spi_tree.specs.Trees as t
 use Rattle.spi_term.specs.Term.{message_size}
 use Rattle.spi_term.specs.Spelling.{ty_nodes}
-use Rattle.spi_scope.specs.declared.fault.ScopeFault.{ScopeFault}
 use Rattle.spi_scope.specs.Scope.{Names, Abbreviations}
 use Rattle.spi_scope.specs.Meaning.{message_in, type_in, process_in}
-use Rattle.spi_scope.specs.Points.{Point, uses_name, uses_type, declares_name, declares_type, ends_message, ends_type, adds, starts_step, Points, in_order, fault_at, added, part, whole_type, message_head, messages_head, typed_head, new_head, tested_head, split_head, match_head, process_points, opponent_points}
+use Rattle.spi_scope.specs.Points.{Points, in_order, part, whole_type, message_head, messages_head, typed_head, new_head, tested_head, split_head, match_head, process_points, opponent_points}
 use Rattle.spi_scope.specs.First.{Clean, count_points}
 use Rattle.spi_scope.specs.Gives.{run}
 use Rattle.spi_scope.specs.StandsFor.{opponent_over}
@@ -82,27 +80,6 @@ module _ (k : ℕ) where
 pub opponent_weighs : (ts : Abbreviations) (xs : Names) (o : Option t.Proc) → opponent_nodes (opponent_over ts xs o) ≤ weight (opponent_points ts xs o)
 opponent_weighs ts xs None = omega arith
 opponent_weighs ts xs (Some p) = nodes_weigh (length xs) ts xs p
-
--- the running count of points at which nothing is wrong is at most 100,000
-total : (c n : ℕ) (f : ScopeFault) → (if nat_lt 100000 (c + n) then Some f else None) ≡ None → c + n ≤ 100000
-total c n f h = elim (cases_Bool (nat_lt 100000 (c + n))) [
-  | inl over ↦ (let z : Some f ≡ None = sym (cond-true (nat_lt 100000 (c + n)) (Some f) None over) ∙ h in absurd cc)
-  | inr within ↦ ltb-false 100000 (c + n) within
-]
-
-still_few : (c : ℕ) (p : Point) → c ≤ 100000 → fault_at c p ≡ None → c + added p ≤ 100000
-still_few c (uses_name xs w) l h = omega (arith, l)
-still_few c (uses_type ts w) l h = omega (arith, l)
-still_few c (declares_name xs w) l h = omega (arith, l)
-still_few c (declares_type ts w) l h = omega (arith, l)
-still_few c (ends_message n s) l h = omega (arith, l)
-still_few c (ends_type n s) l h = omega (arith, l)
-still_few c (adds n s) l h = total c n _ h
-still_few c (starts_step i n s) l h = omega (arith, l)
-
-pub counted_few : (ps : List Point) (c : ℕ) → c ≤ 100000 → Clean c ps → c + count_points ps ≤ 100000
-counted_few [] c l h = omega (arith, l)
-counted_few (p ∷ ps) c l h = omega (arith, counted_few ps (c + added p) (still_few c p l h.0) h.1)
 
 -- the points run
 pub runs : (ps : Points) → Clean 0 (in_order ps) → run ps 0 ≡ Ok (0 + count_points (in_order ps))

@@ -64,6 +64,24 @@ tally_in a (b ∷ es) h = go (same_atom a b) refl h (λ k. tally_in a es k)
 pub count_tally : (a : Atom) (n : ℕ) → (1 ≤ cut a n → 1 ≤ n) × (1 ≤ n → 1 ≤ cut a n)
 count_tally a n = ⊎_elim (λ c. (λ h. omega arith, λ h. omega arith)) (λ c. (λ h. omega arith, λ h. omega arith)) (cut_cases a)
 
+-- an atom that counts is in the effect, and the other way round
+pub count_in : (a : Atom) (es : Effect) → 1 ≤ count a es → In a es
+count_in a es h = tally_in a es ((count_tally a (tally a es)).0 h)
+
+pub in_count : (a : Atom) (es : Effect) → In a es → 1 ≤ count a es
+in_count a es i = (count_tally a (tally a es)).1 (in_tally i)
+
+-- no atom counts in the effect without atoms
+pub count_none : (a : Atom) → count a [] ≡ 0
+count_none (ends m) = refl
+count_none (checks m) = refl
+count_none (many m) = omega arith
+
+pub cut_twice : (a : Atom) (n : ℕ) → cut a (cut a n) ≡ cut a n
+cut_twice (ends m) n = refl
+cut_twice (checks m) n = refl
+cut_twice (many m) n = omega arith
+
 pub same_ty_refl : (t : Ty) → SameTy t t
 same_ty_refl un = same_un
 same_ty_refl unit_ty = same_unit

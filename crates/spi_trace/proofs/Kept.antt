@@ -3,10 +3,10 @@ use Rattle.std.proofs.Common.{◌≡◌, sym, subst, ℕ, suc, ◌<◌, ◌≤�
 use Rattle.std.proofs.lemmas.Bool.{cases_lt}
 use Rattle.spi_term.specs.Lists.{At, In, in_first, in_later}
 use Rattle.spi_term.specs.Term.{Message}
-use Rattle.spi_term.proofs.Lists.{at_more, at_last, at_unique, in_cases}
+use Rattle.spi_term.proofs.Lists.{at_more, at_last, at_unique, in_cases, at_below, within_at, in_at, in_left, in_end, length_more}
 use Rattle.spi_run.specs.Reduction.{Event, begun}
 use Rattle.spi_trace.specs.Pairing.{IsFree, IsEarliest}
-use Rattle.spi_trace.proofs.Seen.{at_snoc, at_within, within_at, in_at, in_before, in_end, length_more}
+use Rattle.spi_trace.proofs.Seen.{at_snoc}
 use Rattle.spi_trace.proofs.Pairs.{earliest_one}
 
 -- the begins of m stand at these places, and of them the first `used` are taken
@@ -49,7 +49,7 @@ module _ {seen : List Event} {taken : List ℕ} {m : Message} {places : List ℕ
 
   -- and where all are taken none is free
   pub kept_spent : length places ≤ used → (i : ℕ) → IsFree seen taken m i → ⊥
-  kept_spent l i f = let (s, b) = in_at (k.all i f.0) in let w = at_within b in f.1 (k.gone s i b (omega arith))
+  kept_spent l i f = let (s, b) = in_at (k.all i f.0) in let w = at_below b in f.1 (k.gone s i b (omega arith))
 
   pub earliest_kept : {i : ℕ} → IsEarliest seen taken m i → At places used i
   earliest_kept {i} h =
@@ -64,10 +64,10 @@ module _ {seen : List Event} {taken : List ℕ} {m : Message} {places : List ℕ
       let f = length_more places (length seen) in
       record {
         begins = λ r i a. ⊎_elim (λ b. at_more (begun m ∷ []) (k.begins r i b)) (λ h. subst (λ x. At (seen ++ begun m ∷ []) x (begun m)) (sym h.1) (at_last seen (begun m))) (at_snoc places a);
-        all = λ i a. ⊎_elim (λ b. in_before _ (k.all i b)) (λ h. subst (λ x. In x (places ++ length seen ∷ [])) (sym h.0) (in_end places (length seen))) (at_snoc seen a);
+        all = λ i a. ⊎_elim (λ b. in_left _ (k.all i b)) (λ h. subst (λ x. In x (places ++ length seen ∷ [])) (sym h.0) (in_end places (length seen))) (at_snoc seen a);
         order = λ r s i j l a b. ⊎_elim
-            (λ x. ⊎_elim (λ y. k.order r s i j l x y) (λ h. let w = at_within (k.begins r i x) in omega (arith, h.1)) (at_snoc places b))
-            (λ g. let w = at_within b in absurd (omega (arith, g.0)))
+            (λ x. ⊎_elim (λ y. k.order r s i j l x y) (λ h. let w = at_below (k.begins r i x) in omega (arith, h.1)) (at_snoc places b))
+            (λ g. let w = at_below b in absurd (omega (arith, g.0)))
             (at_snoc places a);
         gone = λ r i a l. ⊎_elim (λ b. k.gone r i b l) (λ h. let w = k.few in absurd (omega (arith, h.0))) (at_snoc places a);
         left = λ r i a l t. ⊎_elim (λ b. k.left r i b l t) (λ h. let w = k.past i t in omega (arith, h.1)) (at_snoc places a);
@@ -101,8 +101,8 @@ module _ {seen : List Event} {taken : List ℕ} {m : Message} {places : List ℕ
         (λ e. let o = k.order used r i j (omega arith) a b in omega (arith, e))
         (λ u. k.left r j b (omega arith) u)
         (in_cases t);
-    few = let w = at_within a in omega arith;
-    past = λ j t. ⊎_elim (λ e. let w = at_within (k.begins used i a) in omega (arith, e)) (λ u. k.past j u) (in_cases t);
+    few = let w = at_below a in omega arith;
+    past = λ j t. ⊎_elim (λ e. let w = at_below (k.begins used i a) in omega (arith, e)) (λ u. k.past j u) (in_cases t);
   }
 
   -- a begin of another label is taken
@@ -117,5 +117,5 @@ module _ {seen : List Event} {taken : List ℕ} {m : Message} {places : List ℕ
         (λ u. k.left r j b g u)
         (in_cases t);
     few = k.few;
-    past = λ j t. ⊎_elim (λ e. let w = at_within a in omega (arith, e)) (λ u. k.past j u) (in_cases t);
+    past = λ j t. ⊎_elim (λ e. let w = at_below a in omega (arith, e)) (λ u. k.past j u) (in_cases t);
   }

@@ -6,8 +6,8 @@ use Rattle.spi_term.specs.Term.{Message}
 use Rattle.spi_run.specs.Reduction.{Event, begun, ended, ended_many}
 use Rattle.spi_trace.specs.Pairing.{IsEarliest, Pairs, pairs_none, pairs_begin, pairs_end, pairs_unpaid, pairs_end_many, pairs_unpaid_many}
 use Rattle.spi_trace.specs.Laws.{BeginsPayOnce, BeginsComeBefore}
-use Rattle.spi_term.proofs.Lists.{at_more}
-use Rattle.spi_trace.proofs.Seen.{at_within, and_then, length_more}
+use Rattle.spi_term.proofs.Lists.{at_more, at_below, length_more}
+use Rattle.spi_trace.proofs.Seen.{and_then}
 
 pub earliest_one : {seen : List Event} {taken : List ℕ} {m : Message} {i j : ℕ} → IsEarliest seen taken m i → IsEarliest seen taken m j → i ≡ j
 earliest_one {i = i} {j = j} h k =
@@ -69,7 +69,7 @@ later {seen} {es} {i} {b} {m} e h = record {
 }
 
 earliest_before : {seen : List Event} {taken : List ℕ} {m : Message} {b : ℕ} (es : List Event) → IsEarliest seen taken m b → Earlier seen es 0 b m
-earliest_before es h = record { before = let k = at_within h.free.0 in omega arith; label = at_more es h.free.0 }
+earliest_before es h = record { before = let k = at_below h.free.0 in omega arith; label = at_more es h.free.0 }
 
 end_before : {seen : List Event} {taken : List ℕ} {es : List Event} {is : List (Option ℕ)} {i b : ℕ} {m : Message} → Pairs seen taken es is → At es i (ended m) → At is i (Some b) → Earlier seen es i b m
 end_before pairs_none a c = elim a [ ]

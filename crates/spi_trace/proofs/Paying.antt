@@ -3,8 +3,8 @@ use Rattle.std.proofs.Common.{◌≡◌, refl, sym, ◌∙◌, ap, subst, ℕ, z
 use Rattle.std.proofs.lemmas.List.{replicate-append-replicate}
 use Rattle.spi_term.specs.Term.{Message}
 use Rattle.spi_term.proofs.Lookup.{map_take_more}
+use Rattle.spi_term.proofs.Lists.{some_is}
 use Rattle.spi_intern.specs.Table.{KeepsAll, TellsAll, tells_none}
-use Rattle.spi_intern.proofs.Lists.{some_one}
 use Rattle.spi_intern.proofs.Tables.{tells_push, tells_map}
 use Rattle.spi_run.specs.Reduction.{Event, begun, ended, ended_many}
 use Rattle.spi_run.specs.View.{event}
@@ -42,13 +42,13 @@ map_set (q ∷ qs) (suc n) b = ap (λ l. queue q ∷ l) (map_set qs n b)
 
 set_as_it_is : (qs : List Queue) (n : ℕ) (q : Queue) → slice_get qs n ≡ Some q → slice_set qs n q ≡ qs
 set_as_it_is [] n q e = refl
-set_as_it_is (r ∷ qs) zero q e = ap (λ x. x ∷ qs) (sym (some_one e))
+set_as_it_is (r ∷ qs) zero q e = ap (λ x. x ∷ qs) (sym (some_is e))
 set_as_it_is (r ∷ qs) (suc n) q e = ap (λ l. r ∷ l) (set_as_it_is qs n q e)
 
 paid_changed : (e : Event) (i n : ℕ) (qs : List Begins) (b b' : Begins) (o : Option ℕ) → slice_get (map queue qs) n ≡ Some (queue b) → o ≡ payer_in e (queue b) → queue b' ≡ queue_after e i (queue b) → IsPaidFrom e i n (map queue qs) (map queue (slice_set qs n b')) o
 paid_changed e i n qs b b' o a g h = record {
-  by = λ q k. g ∙ ap (payer_in e) (some_one (sym a ∙ k));
-  left = λ q k. map_set qs n b' ∙ ap (λ x. slice_set (map queue qs) n x) (h ∙ ap (queue_after e i) (some_one (sym a ∙ k)));
+  by = λ q k. g ∙ ap (payer_in e) (some_is (sym a ∙ k));
+  left = λ q k. map_set qs n b' ∙ ap (λ x. slice_set (map queue qs) n x) (h ∙ ap (queue_after e i) (some_is (sym a ∙ k)));
 }
 
 -- each kind of event
@@ -60,7 +60,7 @@ paid_end m i n qs d b' o l g h = paid_changed (ended m) i n qs (get_or qs n d) b
 
 pub paid_end_many : (m : Message) (i n : ℕ) (qs : List Begins) (d : Begins) (o : Option ℕ) → n < length qs → o ≡ slice_get (queue (get_or qs n d)).places 0 → IsPaidFrom (ended_many m) i n (map queue qs) (map queue qs) o
 paid_end_many m i n qs d o l g = record {
-  by = λ q k. g ∙ ap (payer_in (ended_many m)) (some_one (sym (map_at qs n d l) ∙ k));
+  by = λ q k. g ∙ ap (payer_in (ended_many m)) (some_is (sym (map_at qs n d l) ∙ k));
   left = λ q k. sym (set_as_it_is (map queue qs) n q k);
 }
 

@@ -2,13 +2,14 @@
 use Rattle.std.proofs.Common.{◌≡◌, refl, sym, ap, subst, ℕ, suc, ◌+◌, ◌≤◌, ◌≢◌, Bool, true, false, if◌then◌else◌, List, [], ◌∷◌, ◌++◌, length, Option, arith}
 use Rattle.std.proofs.lemmas.List.{append-nil}
 use Rattle.spi_term.specs.Lists.{at_first, at_later, In}
+use Rattle.spi_term.proofs.Lists.{within_at, in_at, length_more}
 use Rattle.spi_term.specs.Term.{Message, message_discrete, same_message}
 use Rattle.spi_intern.proofs.MessageLaws.{same_self}
 use Rattle.spi_run.specs.Reduction.{Event, begun, ended, ended_many}
 use Rattle.spi_run.specs.Safety.{begins_of, ends_of}
 use Rattle.spi_trace.specs.Pairing.{IsEarliest, Pairs, pairs_none, pairs_begin, pairs_end, pairs_unpaid, pairs_end_many, pairs_unpaid_many, EndsPaired, ManysPaired}
 use Rattle.spi_trace.specs.Laws.{PairedIsPaid, PairedIsPaidMany}
-use Rattle.spi_trace.proofs.Seen.{within_at, at_in, in_at, and_then, length_more}
+use Rattle.spi_trace.proofs.Seen.{at_in, and_then}
 use Rattle.spi_trace.proofs.Kept.{Kept, kept_none, kept_earliest, earliest_kept, kept_begin, kept_other, kept_take, kept_take_other}
 
 -- n begins of the label are seen, of which u are taken

@@ -2,13 +2,12 @@
 use Rattle.std.proofs.Common.{◌≡◌, ◌≢◌, refl, sym, ◌∙◌, ap, subst, subst₂, ℕ, zero, suc, ◌+◌, ◌<◌, ◌≤◌, ⊎_elim, List, [], ◌∷◌, ◌++◌, length, map, get_or, take, drop, replicate, Option, Some, None, slice_get, slice_set, add-one, arith}
 use Rattle.std.proofs.lemmas.Bool.{cases_eq}
 use Rattle.std.proofs.lemmas.List.{append-nil, length-take-le}
-use Rattle.std.proofs.lemmas.Option.{get_or_from_slice_get, slice_get-get_or}
+use Rattle.std.proofs.lemmas.Option.{get_or_from_slice_get, slice_get-get_or, slice_get_within}
 use Rattle.std.proofs.Math.ListN.{drop_of_length-le}
 use Rattle.spi_term.specs.Lists.{At, at_first, at_later}
 use Rattle.spi_term.specs.Term.{Message}
-use Rattle.spi_term.proofs.Lists.{at_get, get_at, at_unique}
+use Rattle.spi_term.proofs.Lists.{at_get, get_at, at_unique, some_is, get_some, at_below}
 use Rattle.spi_intern.proofs.Tables.{tells_at, tells_length}
-use Rattle.spi_intern.proofs.Lists.{some_one, get_below, below_get}
 use Rattle.spi_run.specs.Reduction.{Event, begun, ended, ended_many}
 use Rattle.spi_trace.specs.Labels.{label_of, AreNumbered}
 use Rattle.spi_trace.specs.Pairing.{Pairs, pairs_none, pairs_begin, pairs_end, pairs_unpaid, pairs_end_many, pairs_unpaid_many, IsPairing}
@@ -18,7 +17,7 @@ use Rattle.spi_run.specs.declared.step.Event as Declared
 use Rattle.spi_trace.specs.declared.queue.Begins.{Begins}
 use Rattle.spi_trace.specs.Queue.{Queue, no_begins, with_begin, next, one_taken, payer_in, queue_after, IsPaidFrom}
 use Rattle.spi_trace.proofs.Prefixes.{length_events}
-use Rattle.spi_trace.proofs.Seen.{and_then, at_within}
+use Rattle.spi_trace.proofs.Seen.{and_then}
 use Rattle.spi_trace.proofs.Kept.{Kept, kept_none, kept_earliest, kept_spent, kept_begin, kept_other, kept_take, kept_take_other}
 
 -- the queue has the begins of the label
@@ -100,7 +99,7 @@ pub record Running (es : List Event) (ns : List ℕ) (i : ℕ) (qs : List Queue)
 
 all_empty : (n : ℕ) (i : ℕ) (x q : Queue) → slice_get (replicate n x) i ≡ Some q → q ≡ x
 all_empty zero i x q e = absurd cc
-all_empty (suc n) zero x q e = sym (some_one e)
+all_empty (suc n) zero x q e = sym (some_is e)
 all_empty (suc n) (suc i) x q e = all_empty n i x q e
 
 pub run_none : (es : List Event) (ns : List ℕ) (n : ℕ) (qs : List Queue) (from : List (Option ℕ)) → qs ≡ replicate n no_begins → from ≡ [] → Running es ns 0 qs from
@@ -119,19 +118,19 @@ same_label es ns bound r i j n k d e a b c f =
     let v : e' ≡ e = at_unique (get_at es j h) b in
     let p : slice_get r.messages n ≡ Some (label_of d) = subst (λ z. slice_get r.messages n ≡ Some (label_of z)) u x in
     let q : slice_get r.messages k ≡ Some (label_of e) = subst (λ z. slice_get r.messages k ≡ Some (label_of z)) v y in (
-      (λ s. some_one (sym p ∙ subst (λ z. slice_get r.messages z ≡ Some (label_of e)) (sym s) q)),
+      (λ s. some_is (sym p ∙ subst (λ z. slice_get r.messages z ≡ Some (label_of e)) (sym s) q)),
       (λ s. r.differ.one n k (label_of d) p (subst (λ m. slice_get r.messages k ≡ Some m) (sym s) q)),
     )
 
 pub number_within : (es : List Event) (ns : List ℕ) (bound : ℕ) → AreNumbered es ns bound → (i n : ℕ) → At ns i n → n < bound
 number_within es ns bound r i n a =
     let (e, g, x) = tells_at r.each i n (at_get a) in
-    let h = get_below r.messages n (label_of e) x in let k = r.few in omega arith
+    let h = slice_get_within r.messages n (label_of e) x in let k = r.few in omega arith
 
 -- lists that are changed at a place
 set_there : (qs : List Queue) (n : ℕ) (x q : Queue) → slice_get (slice_set qs n x) n ≡ Some q → q ≡ x
 set_there [] n x q e = absurd cc
-set_there (r ∷ qs) zero x q e = sym (some_one e)
+set_there (r ∷ qs) zero x q e = sym (some_is e)
 set_there (r ∷ qs) (suc n) x q e = set_there qs n x q e
 
 set_elsewhere : (qs : List Queue) (n k : ℕ) (x : Queue) → k ≢ n → slice_get (slice_set qs n x) k ≡ slice_get qs k
@@ -142,13 +141,13 @@ set_elsewhere (r ∷ qs) (suc n) zero x d = refl
 set_elsewhere (r ∷ qs) (suc n) (suc k) x d = set_elsewhere qs n k x (λ e. d (ap suc e))
 
 take_at : (es : List Event) (i : ℕ) (e : Event) → At es i e → take (suc i) es ≡ take i es ++ e ∷ []
-take_at es i e a = take-suc es i e (at_within a) ∙ ap (λ x. take i es ++ x ∷ []) (get_or_from_slice_get es i e e (at_get a))
+take_at es i e a = take-suc es i e (at_below a) ∙ ap (λ x. take i es ++ x ∷ []) (get_or_from_slice_get es i e e (at_get a))
 
 drop_at : (es : List Event) (i : ℕ) (e : Event) → At es i e → drop i es ≡ e ∷ drop (suc i) es
-drop_at es i e a = drop-cons es i e (at_within a) ∙ ap (λ x. x ∷ drop (suc i) es) (get_or_from_slice_get es i e e (at_get a))
+drop_at es i e a = drop-cons es i e (at_below a) ∙ ap (λ x. x ∷ drop (suc i) es) (get_or_from_slice_get es i e e (at_get a))
 
 length_take : (es : List Event) (i : ℕ) (e : Event) → At es i e → length (take i es) ≡ i
-length_take es i e a = let h = at_within a in length-take-le i es (omega arith)
+length_take es i e a = let h = at_below a in length-take-le i es (omega arith)
 
 -- one more event
 run_suc : (es : List Event) (ns : List ℕ) (bound i n : ℕ) (e : Event) (q : Queue) (qs : List Queue) (from : List (Option ℕ)) → AreNumbered es ns bound → At es i e → At ns i n → slice_get qs n ≡ Some q → Running es ns i qs from → Running es ns (suc i) (slice_set qs n (queue_after e i q)) (from ++ payer_in e q ∷ [])
@@ -196,7 +195,7 @@ pub run_more : (es : List Declared.Event) (ns : List ℕ) (bound i n : ℕ) (x :
 run_more es ns bound i n x qs rs o from more r l e f k p g h =
     let a = number_at es ns bound i n r l f in
     let b = number_within (map event es) ns bound r i n a in
-    let (q, c) = below_get qs n (subst (λ z. n < z) (sym k) b) in
+    let (q, c) = get_some qs n (subst (λ z. n < z) (sym k) b) in
     let s = run_suc (map event es) ns bound i n (event x) q qs from r (at_event es i x l e) a c h in
     rw (add-one, p.left q c, g, p.by q c) s
 

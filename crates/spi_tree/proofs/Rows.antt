@@ -30,7 +30,7 @@ row_of_fields n (more_of-SField w a rest) = ap (t.more_fields w (ty_of a)) (row_
 pub tuple_ty_is : (w : SWord) (a : Box STy) (v : Vec SField) (b : Box Last) (s : Span) → ty_of (sty.Tuple w a v b s) ≡ t.tuple_ty s w (ty_of a.value) (t.fields_of_list (map field_of v.items)) (last_of b.value)
 tuple_ty_is w a v b s = ap (λ fs. t.tuple_ty s w (ty_of a.value) fs (last_of b.value)) (sym (row_of_fields _ (Rattle.spi_tree.specs.declared.tree.Last.TheBlock.hidden-the_row-SField-0 v)) ∙ ap (λ l. t.fields_of_list (map field_of l)) (items_hidden-the_row-SField-0 v))
 
-row_of_derivs : (n : _) (row : Row_of-SDeriv n) → t.derivs_of_list (map deriv_of (items-the_row-SDeriv n row)) ≡ derivs_of_row row
+pub row_of_derivs : (n : _) (row : Row_of-SDeriv n) → t.derivs_of_list (map deriv_of (items-the_row-SDeriv n row)) ≡ derivs_of_row row
 row_of_derivs n end_of-SDeriv = refl
 row_of_derivs n (more_of-SDeriv d rest) = ap (t.more_derivs (deriv_of d)) (row_of_derivs _ rest)
 

@@ -15,6 +15,7 @@ use Rattle.spi_tree.specs.Pieces.{Piece, opens, cell, closes, at_level, ends, a_
 use Rattle.spi_tree.specs.Formed.{IsWordFit, AreWordsFit, IsDeclared, AreDeclared}
 use Rattle.spi_parse.specs.Exact.{IsWithin}
 use Rattle.spi_parse.specs.Formed.{IsFile, whole_file}
+use Rattle.spi_parse.proofs.Versions.{plain_decls}
 use Rattle.spi_heading.specs.Headings.{Shared}
 use Rattle.spi_heading.specs.Each.{each_pieces}
 use Rattle.spi_heading.specs.Grammar.{shared_word, shared_pieces}
@@ -141,13 +142,6 @@ plain_each (t.abbreviated s w a ∷ ds) r h =
 
 plain_body : (x : n.Narration) → IsNarration x → is_version_2 (kinds_in (narrated_body x)) ≡ false
 plain_body x i = plain_each x.decls _ (plain_shared x.shared x.roles _ i.roles)
-
-plain_decls : (ds : List t.Declared) (r : List Piece) → is_version_2 (kinds_in (decls_pieces ds (a_reserved word.Process r))) ≡ false
-plain_decls [] r = plain_first (kinds.Reserved word.Process) (kinds_in r) refl
-plain_decls (t.free s w more ∷ ds) r =
-    plain_first (kinds.Reserved word.Free) (kinds_in (a_word false w (words_pieces more (a_mark mark.Semicolon (ends s (decls_pieces ds (a_reserved word.Process r))))))) refl
-plain_decls (t.abbreviated s w a ∷ ds) r =
-    plain_first (kinds.Reserved word.TypeWord) (kinds_in (a_word false w (a_mark mark.Equals (ty_pieces 1 a (a_mark mark.Semicolon (ends s (decls_pieces ds (a_reserved word.Process r)))))))) refl
 
 -- the fine parts of a formed narration within the limits
 fine_body : (x : n.Narration) → IsNarration x → IsWithin (whole_narration x) → AreKinds (kinds_in (whole_narration x)) → IsFine (is_later_narration x) (narrated_body x)

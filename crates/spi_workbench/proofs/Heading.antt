@@ -1,21 +1,18 @@
 -- What the declarations, the shared names and a part count together, and what they are as one file.
-use Rattle.std.proofs.Common.{◌≡◌, ℕ, ◌+◌, ◌<◌, ◌≤◌, List, [], ◌∷◌, ◌++◌, length, refl, sym, ap, ◌∙◌, subst, arith, ⊎_elim}
-use Rattle.std.specs.Prelude.{Some, None, if◌then◌else◌}
-use Rattle.std.proofs.lemmas.Bool.{cases_lt, lt-ltb}
-use Rattle.spi_text.specs.declared.lines.Span.{Span}
+use Rattle.std.proofs.Common.{◌≡◌, ℕ, ◌+◌, ◌≤◌, List, [], ◌∷◌, ◌++◌, length, refl, sym, ap, ◌∙◌, subst, arith}
 use Rattle.spi_tree.specs.declared.tree.SProc.{SProc}
 use Rattle.spi_tree.specs.declared.tree.Tree.{Tree}
 use Rattle.spi_tree.specs.Trees as t
 use Rattle.spi_tree.specs.Views.{proc_of, file_of}
 use Rattle.spi_heading.specs.Headings.{Shared, with_shared}
 use Rattle.spi_term.specs.Spelling.{Spelling}
-use Rattle.spi_scope.specs.declared.fault.ScopeFault.TheVariants.{FileTooLarge}
 use Rattle.spi_scope.specs.Scope.{Names, Abbreviations}
-use Rattle.spi_scope.specs.Points.{Point, uses_name, uses_type, declares_name, declares_type, ends_message, ends_type, adds, starts_step, fault_at, added, Points, none, one, ◌⨾◌, in_order, process_points, decls_points, file_points}
-use Rattle.spi_scope.specs.First.{count_points, Clean, IsClean}
+use Rattle.spi_scope.specs.Points.{Point, Points, none, one, ◌⨾◌, in_order, process_points, decls_points, file_points}
+use Rattle.spi_scope.specs.First.{count_points, IsClean}
 use Rattle.spi_scope.specs.Over.{AreAbbreviationsOver}
 use Rattle.spi_scope.specs.StandsFor.{StandsFor, Meant}
 use Rattle.spi_scope.proofs.Counting.{weight, names_weigh}
+use Rattle.spi_scope.proofs.Firsts.{counted_few}
 use Rattle.spi_scope.proofs.Indexing.{all_over}
 use Rattle.spi_edits.specs.Edits.{Bench}
 use Rattle.spi_workbench.specs.Reading.{behind_shared, file_with, free_names, abbreviations_of, part_meant}
@@ -24,29 +21,6 @@ use Rattle.spi_workbench.specs.Behind.{StandsBehind}
 use Rattle.spi_workbench.specs.Work.{IsHeaded}
 use Rattle.spi_workbench.proofs.PartNodes.{stands_behind}
 use Rattle.spi_workbench.proofs.Sized.{new_head_adds}
-
--- where nothing is wrong the count stays within the limit
-adds_few : (c n : ℕ) (s : Span) → fault_at c (adds n s) ≡ None → c + n ≤ 100000
-adds_few c n s e = ⊎_elim large (λ h. h) (cases_lt 100000 (c + n))
-  where
-    large : 100000 < c + n → c + n ≤ 100000
-    large h =
-        let f : Some (FileTooLarge s (c + n)) ≡ None = sym (ap (λ b. if b then Some (FileTooLarge s (c + n)) else None) (lt-ltb 100000 (c + n) h)) ∙ e in
-        absurd (cc)
-
-point_few : (c : ℕ) (p : Point) → c ≤ 100000 → fault_at c p ≡ None → c + added p ≤ 100000
-point_few c (uses_name xs w) h e = omega arith
-point_few c (uses_type ts w) h e = omega arith
-point_few c (declares_name xs w) h e = omega arith
-point_few c (declares_type ts w) h e = omega arith
-point_few c (ends_message n s) h e = omega arith
-point_few c (ends_type n s) h e = omega arith
-point_few c (adds n s) h e = adds_few c n s e
-point_few c (starts_step i n s) h e = omega arith
-
-clean_few : (ps : List Point) (c : ℕ) → c ≤ 100000 → Clean c ps → c + count_points ps ≤ 100000
-clean_few [] c h k = omega arith
-clean_few (p ∷ ps) c h k = omega (arith, clean_few ps (c + added p) (point_few c p h k.0) k.1)
 
 count_append : (ps qs : List Point) → count_points (ps ++ qs) ≡ count_points ps + count_points qs
 count_append [] qs = omega arith
@@ -75,7 +49,7 @@ module _ (b : Bench) where
   file_added p = omega (arith, behind_added (abbreviations_of b) (free_names b) b.shared p)
 
   pub clean_nodes : (p : t.Proc) → IsClean (file_with b p) → heading_nodes b + part_nodes b p ≤ 100000
-  clean_nodes p h = omega (arith, clean_few (in_order (file_points (file_with b p))) 0 (omega arith) h, count_added (file_points (file_with b p)), file_added p)
+  clean_nodes p h = omega (arith, counted_few (in_order (file_points (file_with b p))) 0 (omega arith) h, count_added (file_points (file_with b p)), file_added p)
 
   pub names_counted : length (free_names b) + length b.shared ≤ heading_nodes b
   names_counted = omega (arith, names_weigh [] [] b.decls, weight_added (decls_points [] [] b.decls), many_shared (abbreviations_of b) (free_names b) b.shared)

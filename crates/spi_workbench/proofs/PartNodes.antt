@@ -6,13 +6,12 @@ use Rattle.spi_tree.specs.Trees as t
 use Rattle.spi_heading.specs.Headings.{Shared, with_shared}
 use Rattle.spi_term.specs.Term.{Ty, Freshes, Process, leaf, prefix, fork, binds, fork_binds, process_size}
 use Rattle.spi_term.specs.Spelling.{Shape, prefix_at, fork_at, flat, spelled, Spelling}
-use Rattle.spi_term.proofs.Terms.{over_more_ty}
 use Rattle.spi_term.proofs.Unique.{spelled_one}
 use Rattle.spi_scope.specs.Scope.{Names, Abbreviations}
 use Rattle.spi_scope.specs.Meaning.{process_in, process_over}
 use Rattle.spi_scope.specs.Over.{AreAbbreviationsOver}
 use Rattle.spi_scope.specs.StandsFor.{over_free}
-use Rattle.spi_scope.proofs.Indexing.{nodes_spell}
+use Rattle.spi_scope.proofs.Indexing.{nodes_spell, more_over}
 use Rattle.spi_workbench.specs.Reading.{behind_shared, types_in}
 use Rattle.spi_workbench.specs.Behind.{earlier, StandsBehind, type_made}
 
@@ -70,11 +69,6 @@ flat_behind ts p xs (s ∷ ss) i k e =
     ap (λ m. prefix_at k (Freshes a) (suc i) ∷ flat (suc i) m q) z
     ∙ ap (λ l. prefix_at k (Freshes a) (suc i) ∷ l) (flat_behind ts p ys ss (suc i) (suc k) c)
     ∙ ap (λ m. prefix_at k (Freshes a) (suc i) ∷ (made_shapes (suc i) (suc k) (types_in ts ys ss) ++ flat m (length (with_shared ys ss)) rest)) n
-
--- the abbreviations are over the shared names too
-pub more_over : (n m : ℕ) → n ≤ m → (ts : Abbreviations) → AreAbbreviationsOver n ts → AreAbbreviationsOver m ts
-more_over n m h [] o = tt
-more_over n m h (u ∷ ts) o = (over_more_ty n m h 0 u.stands_for o.0, more_over n m h ts o.1)
 
 module _ (ts : Abbreviations) (xs : Names) (ss : List Shared) (p : t.Proc) (over : AreAbbreviationsOver (length xs) ts) where
   whole_nodes : spelled (length xs) (process_over (length xs) ts xs (behind_shared ss p)) ≡ made_shapes 0 (length xs) (types_in ts xs ss) ++ flat (0 + length ss) (length (with_shared xs ss)) (process_in (λ s. s) ts (with_shared xs ss) p)

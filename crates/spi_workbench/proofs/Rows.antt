@@ -9,24 +9,15 @@ use Rattle.spi_term.specs.Spelling.{Shape, leaf_at, prefix_at, fork_at, spelled,
 use Rattle.spi_term.specs.View.{shape_of, shapes_of, ty}
 use Rattle.spi_term.specs.declared.term.Node.{Node}
 use Rattle.spi_term.specs.declared.term.Ty.{Ty as TyValue}
+use Rattle.spi_term.proofs.Lists.{drop_get, take_get}
 use Rattle.spi_scope.proofs.Closing.{shapes_are, small_nodes}
 use Rattle.spi_workbench.specs.Behind.{earlier, StandsBehind, type_made}
 
-drop_suc : {A : Type 0} (l : List A) (i : ℕ) (x : A) → slice_get l i ≡ Some x → drop i l ≡ x ∷ drop (suc i) l
-drop_suc [] i x e = absurd (cc)
-drop_suc (y ∷ l) zero x e = let f : y ≡ x = cc in ap (λ z. z ∷ l) f
-drop_suc (y ∷ l) (suc i) x e = drop_suc l i x e
+drop_next : {A : Type 0} (l : List A) (i : ℕ) (x : A) → slice_get l i ≡ Some x → drop i l ≡ x ∷ drop (i + 1) l
+drop_next l i x e = let f : suc i ≡ i + 1 = omega arith in drop_get l i x e ∙ ap (λ n. x ∷ drop n l) f
 
-pub drop_get : {A : Type 0} (l : List A) (i : ℕ) (x : A) → slice_get l i ≡ Some x → drop i l ≡ x ∷ drop (i + 1) l
-drop_get l i x e = let f : suc i ≡ i + 1 = omega arith in drop_suc l i x e ∙ ap (λ n. x ∷ drop n l) f
-
-take_at : {A : Type 0} (l : List A) (i : ℕ) (x : A) → slice_get l i ≡ Some x → take (suc i) l ≡ take i l ++ x ∷ []
-take_at [] i x e = absurd (cc)
-take_at (y ∷ l) zero x e = let f : y ≡ x = cc in ap (λ z. z ∷ []) f
-take_at (y ∷ l) (suc i) x e = ap (λ r. y ∷ r) (take_at l i x e)
-
-pub take_get : {A : Type 0} (l : List A) (i : ℕ) (x : A) → slice_get l i ≡ Some x → take (i + 1) l ≡ take i l ++ x ∷ []
-take_get l i x e = let f : i + 1 ≡ suc i = omega arith in ap (λ n. take n l) f ∙ take_at l i x e
+take_next : {A : Type 0} (l : List A) (i : ℕ) (x : A) → slice_get l i ≡ Some x → take (i + 1) l ≡ take i l ++ x ∷ []
+take_next l i x e = let f : i + 1 ≡ suc i = omega arith in ap (λ n. take n l) f ∙ take_get l i x e
 
 -- one more node is copied
 pub copied : (n i : ℕ) (ss : List Shape) (x : Shape) (old new : List Node) (node : Node) → slice_get ss i ≡ Some x → shape_of node ≡ earlier n x → new ≡ old ++ node ∷ []
@@ -36,7 +27,7 @@ copied n i ss x old new node g s e h =
     ∙ ap (λ l. l ++ map (earlier n) (drop (i + 1) ss)) (map_push shape_of old node)
     ∙ append_assoc (map shape_of old) (shape_of node ∷ []) (map (earlier n) (drop (i + 1) ss))
     ∙ ap (λ y. map shape_of old ++ y ∷ map (earlier n) (drop (i + 1) ss)) s
-    ∙ ap (λ l. map shape_of old ++ map (earlier n) l) (sym (drop_get ss i x g))
+    ∙ ap (λ l. map shape_of old ++ map (earlier n) l) (sym (drop_next ss i x g))
     ∙ h
 
 pub all_copied : (n i : ℕ) (ss : List Shape) (ns : List Node) → length ss ≤ i → map shape_of ns ++ map (earlier n) (drop i ss) ≡ map (earlier n) (drop n ss) → map shape_of ns ≡ map (earlier n) (drop n ss)
@@ -51,7 +42,7 @@ pub type_copied : (i : ℕ) (ss : List Shape) (x : Shape) (old new : List TyValu
     → map ty old ≡ map type_made (take i ss) → map ty new ≡ map type_made (take (i + 1) ss)
 type_copied i ss x old new a g s e h =
     ap (map ty) e ∙ map_push ty old a ∙ ap (λ l. l ++ ty a ∷ []) h ∙ ap (λ b. map type_made (take i ss) ++ b ∷ []) s
-    ∙ sym (map_push type_made (take i ss) x) ∙ ap (map type_made) (sym (take_get ss i x g))
+    ∙ sym (map_push type_made (take i ss) x) ∙ ap (map type_made) (sym (take_next ss i x g))
 
 small_earlier : (n : ℕ) (x : Shape) → HasSmallParts x → HasSmallParts (earlier n x)
 small_earlier n (leaf_at k l) h = h

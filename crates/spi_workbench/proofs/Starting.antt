@@ -13,13 +13,13 @@ use Rattle.spi_scope.specs.Scope.{Names, Abbreviations}
 use Rattle.spi_scope.specs.Meaning.{process_in}
 use Rattle.spi_scope.specs.Over.{AreAbbreviationsOver}
 use Rattle.spi_scope.specs.StandsFor.{StandsFor, Meant}
-use Rattle.spi_scope.proofs.Indexing.{nodes_spell}
+use Rattle.spi_scope.proofs.Indexing.{nodes_spell, more_over}
 use Rattle.spi_bench.specs.Whole as Whole
 use Rattle.spi_bench.specs.Parts.{Benched}
 use Rattle.spi_edits.specs.Edits.{Bench}
 use Rattle.spi_workbench.specs.Reading.{behind_shared, file_with, free_names, abbreviations_of, types_in, shared_types, bench_after}
 use Rattle.spi_workbench.specs.Behind.{type_made}
-use Rattle.spi_workbench.proofs.PartNodes.{as_many_types, types_stand, more_over}
+use Rattle.spi_workbench.proofs.PartNodes.{as_many_types, types_stand}
 use Rattle.spi_workbench.proofs.Heading.{clean_nodes, names_counted, over}
 
 size_behind : (k : ℕ) (ts : Abbreviations) (xs : Names) (ss : List Shared) (p : t.Proc) → length ss ≤ process_size (process_in (λ s. k) ts xs (behind_shared ss p))

@@ -33,14 +33,14 @@ fn node(scope: u32, form: Form) -> Node
     Node { scope, form }
 }
 
-// `stop`
+/// `stop`
 pub fn stops(alloc: Global) -> Result<Process, NoMemory>
     ensures { IfOk result (λ p. p.names ≡ 1) }
 {
     of_nodes(Vec::from_array(alloc, [node(1, Form::Stop)])?)
 }
 
-// `new (x: Un); stop`
+/// `new (x: Un); stop`
 pub fn makes_a_name(alloc: Global) -> Result<Process, NoMemory>
     ensures { IfOk result (λ p. p.names ≡ 1) }
 {
@@ -60,7 +60,7 @@ fn begin(body: u32) -> Form
     }
 }
 
-// `begin a; begin a; stop`
+/// `begin a; begin a; stop`
 pub fn begins_twice(alloc: Global) -> Result<Process, NoMemory>
     ensures { IfOk result (λ p. p.names ≡ 1) }
 {
@@ -89,7 +89,7 @@ fn serve(body: u32) -> Form
     }
 }
 
-// `repeat inp a (x: Un); out a x | out a a`
+/// `repeat inp a (x: Un); out a x | out a a`
 pub fn repeats(alloc: Global) -> Result<Process, NoMemory>
     ensures { IfOk result (λ p. p.names ≡ 1) }
 {

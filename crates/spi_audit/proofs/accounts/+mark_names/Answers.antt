@@ -1,8 +1,8 @@
 use Rattle.spi_audit.proofs.Marking.{marks_bound, marks_unit, marks_name, marks_pair, marks_enc, marks_left, marks_right, marks_hash}
-use Rattle.spi_count.proofs.Kept.{on_ok}
 use Rattle.std.proofs.Common.{arith, ◌≡◌, Some, max}
 use Rattle.std.specs.Prelude.{slice_get}
 use Rattle.spi_term.specs.Term.{Message}
+use Rattle.spi_term.proofs.Choices.{on_ok}
 use Rattle.spi_count.specs.Counts.{count_of, Sets}
 use Rattle.spi_audit.specs.Accounts.{Marks}
 use Rattle.spi_intern.proofs.Sized.{pair_of, enc_of, left_of, right_of, hash_of}

@@ -1,6 +1,6 @@
 use Rattle.std.proofs.Common.{◌≡◌, ◌++◌, [], ◌∷◌}
+use Rattle.spi_term.proofs.Choices.{on_ok}
 use Rattle.spi_audit.specs.Walking.{Settles}
-use Rattle.spi_count.proofs.Kept.{on_ok}
 use Rattle.spi_audit.proofs.Leading.{settles_none, settles_one, settles_two}
 use Rattle.spi_audit.proofs.walking.bind_names.Goals as goal
 

@@ -1,6 +1,6 @@
 use Rattle.std.proofs.Common.{take}
+use Rattle.spi_term.proofs.Choices.{on_ok}
 use Rattle.spi_audit.specs.Walking.{Settles}
-use Rattle.spi_count.proofs.Kept.{on_ok}
 use Rattle.spi_message.proofs.Cut.{turns_cut}
 use Rattle.spi_audit.proofs.Leading.{settles_after}
 use Rattle.spi_audit.proofs.walking.settle.Goals as goal

@@ -1,4 +1,5 @@
-use Rattle.spi_explain.proofs.Shaped.{answered_at, if_ok}
+use Rattle.spi_explain.proofs.Shaped.{answered_at}
+use Rattle.spi_term.proofs.Choices.{if_ok}
 use Rattle.spi_explain.proofs.blaming.blames.Goals as goal
 
 pub returns : goal.returns

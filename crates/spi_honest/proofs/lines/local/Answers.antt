@@ -1,6 +1,7 @@
 use Rattle.spi_narrate.specs.Views.{narration_of}
+use Rattle.spi_term.proofs.Choices.{on_ok}
 use Rattle.spi_scope.specs.Files.{meant}
-use Rattle.spi_honest.proofs.Playing.{on_ok, if_err, local_roomy, local_ok, local_bad}
+use Rattle.spi_honest.proofs.Playing.{if_err, local_roomy, local_ok, local_bad}
 use Rattle.spi_honest.proofs.lines.local.Goals as goal
 
 pub attempt-requires-clause-roomy : goal.attempt-requires-clause-roomy

@@ -1,7 +1,8 @@
 use Rattle.std.proofs.Common.{true≢false, sym, ◌∙◌}
 use Rattle.spi_narrate.specs.Views.{narration_of}
+use Rattle.spi_term.proofs.Choices.{on_ok}
 use Rattle.spi_scope.specs.Files.{meant}
-use Rattle.spi_honest.proofs.Playing.{on_ok, if_err}
+use Rattle.spi_honest.proofs.Playing.{if_err}
 use Rattle.spi_honest.proofs.Meeting.{meet_names, apart_bad, meet_roomy, meet_ok, meet_bad}
 use Rattle.spi_honest.proofs.lines.meet.Goals as goal
 

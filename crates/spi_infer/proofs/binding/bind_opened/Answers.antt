@@ -1,7 +1,7 @@
 use Rattle.std.proofs.Common.{ap, length, arith}
+use Rattle.std.proofs.lemmas.Option.{slice_get_within}
 use Rattle.spi_term.specs.Substitution.{ty_put}
 use Rattle.spi_term.specs.View.{message, ty}
-use Rattle.spi_intern.proofs.Lists.{get_below}
 use Rattle.spi_intern.proofs.Meanings.{means_keeps}
 use Rattle.spi_message.proofs.Tested.{kept_more}
 use Rattle.spi_infer.proofs.Bound.{turns_bind, above_kept, above_more, above_bind}
@@ -11,7 +11,7 @@ pub opened-requires-clause-ty : goal.opened-requires-clause-ty
 opened-requires-clause-ty c = record { type = ty c.args.t.now; means = means_keeps c.in_ok-m.ensures.kept.store c.in_ok-id.ensures.at }
 
 pub opened-requires-clause-message : goal.opened-requires-clause-message
-opened-requires-clause-message c = get_below _ _ _ c.in_ok-m.ensures.at
+opened-requires-clause-message c = slice_get_within _ _ _ c.in_ok-m.ensures.at
 
 pub bind-requires-clause-room : goal.bind-requires-clause-room
 bind-requires-clause-room c =

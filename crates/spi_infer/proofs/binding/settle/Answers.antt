@@ -1,11 +1,11 @@
 use Rattle.std.proofs.Common.{◌≡◌, ◌≤◌, ◌-◌, ◌∷◌, ◌++◌, [], List, length, reverse, subst, ◌∙◌, arith}
+use Rattle.spi_term.proofs.Choices.{on_ok}
 use Rattle.spi_intern.specs.Meaning.{Keeps}
 use Rattle.spi_intern.specs.declared.store.Store.{Store}
 use Rattle.spi_intern.proofs.Meanings.{means_keeps}
 use Rattle.spi_infer.specs.Passes.{Wait}
 use Rattle.spi_infer.specs.Waiting.{Queued, IsDue, IsNotDue, ReachesUpTo}
 use Rattle.spi_message.proofs.Tested.{kept_same}
-use Rattle.spi_count.proofs.Kept.{on_ok}
 use Rattle.spi_infer.proofs.Queues.{none_of, some_of, calm, taken, calm_queued, due_queued}
 use Rattle.spi_infer.proofs.Bound.{turns_calm, turns_due, turns_bound, reaches_calm, reaches_due, above_cut, above_more, above_bind, few_bind}
 use Rattle.spi_message.proofs.Cut.{turns_cut, length_cut, same_store}

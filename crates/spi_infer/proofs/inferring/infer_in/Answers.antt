@@ -1,10 +1,10 @@
 use Rattle.std.proofs.Common.{◌≡◌, length, sym, ◌∙◌, subst}
+use Rattle.spi_term.proofs.Sizes.{some_process}
 use Rattle.spi_rules.specs.Environment.{Env}
 use Rattle.spi_rules.specs.Blocking.{node_root}
 use Rattle.spi_message.specs.Judging.{Stands}
 use Rattle.spi_message.proofs.Standing.{stand_length}
 use Rattle.spi_infer.specs.Inferring.{IsLeast}
-use Rattle.spi_infer.proofs.Passes.{size_pos}
 use Rattle.spi_infer.proofs.Answering.{block_found, blocks_first}
 use Rattle.spi_infer.proofs.inferring.infer_in.Given.{Over}
 use Rattle.spi_infer.proofs.inferring.infer_in.Goals as goal
@@ -17,7 +17,7 @@ names_are : (g : Over) (c : In_ok-effect g) (env : Env) → Stands c.args.judge.
 names_are g c env h = sym c.requires ∙ stand_length h
 
 pub least_from-requires-clause-node : goal.least_from-requires-clause-node
-least_from-requires-clause-node g c = size_pos c.args.process.now.process
+least_from-requires-clause-node g c = some_process c.args.process.now.process
 
 pub returns-in-Some-clause-answer : goal.returns-in-Some-clause-answer
 returns-in-Some-clause-answer g c env h =

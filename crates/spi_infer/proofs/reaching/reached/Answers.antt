@@ -1,7 +1,8 @@
 use Rattle.std.proofs.Common.{sym, ap, ◌∙◌, subst, arith}
 use Rattle.spi_term.specs.View.{shape_of}
 use Rattle.spi_rules.specs.Environment.{untrusted}
-use Rattle.spi_infer.proofs.Descending.{Toward, Nearer, toward_root, few_names, nearer, toward_end, length_untrusted}
+use Rattle.spi_rules.proofs.Typing.{length_untrusted}
+use Rattle.spi_infer.proofs.Descending.{Toward, Nearer, toward_root, few_names, nearer, toward_end}
 use Rattle.spi_infer.proofs.reaching.reached.Goals as goal
 use Rattle.spi_infer.proofs.reaching.reached.Goals.{In_ok-id}
 

@@ -1,5 +1,5 @@
 use Rattle.std.proofs.Common.{◌≡◌, ◌<◌, ℕ, ap, subst, ◌∙◌, slice_get, length, arith}
-use Rattle.spi_intern.proofs.Lists.{below_get}
+use Rattle.spi_term.proofs.Lists.{get_some}
 use Rattle.spi_know.specs.Numbered.{AreClauses}
 use Rattle.spi_know.proofs.Clausal.{clauses_none, clauses_step}
 use Rattle.spi_know.proofs.clauses.clauses_of.Goals as goal
@@ -12,7 +12,7 @@ loop-j-preserved c =
     let ms = c.args.store.now.messages in
     let count = c.message_count-count.ensures.count in
     let lt : c.loop-j.j < length ms = omega (arith, count) in
-    let (m, e) = below_get ms c.loop-j.j lt in
+    let (m, e) = get_some ms c.loop-j.j lt in
     clauses_step ms _ _ _ _ _ _ m e (c.part.ensures m (ap (slice_get ms) c.at.ensures ∙ e)) c.in_ok-add_part.ensures.rules c.in_ok-add_part.ensures.ways c.loop-j.invariant
 
 pub returns : goal.returns

@@ -1,6 +1,6 @@
 use Rattle.std.proofs.Common.{sym, subst, ℕ, List, length, arith}
+use Rattle.spi_term.proofs.Lists.{get_some}
 use Rattle.spi_horn.specs.declared.tracing.Line.{Line}
-use Rattle.spi_intern.proofs.Lists.{below_get}
 use Rattle.spi_know.specs.Spelled.{CanBeSpelled, AreLines}
 use Rattle.spi_know.proofs.Certified.{small_lines, certifies, all_used}
 use Rattle.spi_know.proofs.deciding.certify.Goals as goal
@@ -8,7 +8,7 @@ use Rattle.spi_know.proofs.deciding.certify.Goals as goal
 pub spell-requires : goal.spell-requires
 spell-requires c =
     let (start, o, sw) = c.requires.order in
-    let (x, e) = below_get c.args.closure.now.order.items c.args.place c.requires.within in
+    let (x, e) = get_some c.args.closure.now.order.items c.args.place c.requires.within in
     let proof = c.in_ok-lines.ensures.proves start x.number o (o.stands c.args.place x e) in
     let few = c.in_ok-lines.ensures.few in
     let within = c.requires.within in

@@ -1,9 +1,9 @@
 use Rattle.std.proofs.Common.{sym, subst, length, IfOk, OnOk}
+use Rattle.spi_term.proofs.Choices.{on_ok}
 use Rattle.spi_message.specs.declared.answers.Asked.{Asked}
 use Rattle.spi_message.specs.Answered.{TellsTest, CanAsk}
 use Rattle.spi_message.proofs.Judges.{typed_in, labelled_in, good_in, small_asked}
 use Rattle.spi_message.specs.Added.{AnswerGives}
-use Rattle.spi_message.proofs.Comparing.{on_ok}
 use Rattle.spi_message.proofs.Examining.{typing_answer, label_answer, good_answer}
 use Rattle.spi_message.proofs.answering.ask.Goals as goal
 

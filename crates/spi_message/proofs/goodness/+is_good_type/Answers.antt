@@ -1,4 +1,5 @@
 use Rattle.std.proofs.Common.{arith, ap, sym, subst, ◌∙◌, ◌++◌, ◌∷◌, [], length}
+use Rattle.spi_term.proofs.Choices.{on_ok}
 use Rattle.spi_message.specs.Filling.{AreIdsBelow, FillsTy}
 use Rattle.spi_intern.specs.Messages.{says_name}
 use Rattle.spi_message.specs.Added.{TypeIsAdded}
@@ -6,7 +7,6 @@ use Rattle.spi_intern.proofs.Meanings.{terms_more}
 use Rattle.spi_message.proofs.Fills.{all_below_keeps}
 use Rattle.spi_message.proofs.FillsTypes.{given_keeps, size_of_kept, pair_ty_of, sum_ty_of, key_ty_of, nonce_ty_of, un_of, unit_ty_of, fills_given, depth_stands}
 use Rattle.spi_message.proofs.Goods.{un_good, unit_good, key_good, nonce_good, sum_good, sum_bad, pair_good, pair_bad, asked_good_part, asked_good_later, asked_good_under, asked_atoms, name_over}
-use Rattle.spi_message.proofs.Comparing.{on_ok}
 use Rattle.spi_message.proofs.Examining.{no_examining, first_examined, left_examined, payload_examined, sum_examined, nonce_examined, pair_examined}
 use Rattle.spi_message.proofs.goodness.+is_good_type.Goals as goal
 

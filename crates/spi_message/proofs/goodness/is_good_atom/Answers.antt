@@ -1,9 +1,9 @@
+use Rattle.spi_term.proofs.Choices.{on_ok}
 use Rattle.spi_message.proofs.Fills.{below_keeps}
 use Rattle.spi_message.proofs.FillsTypes.{message_fills}
 use Rattle.spi_message.proofs.Standing.{environment_keeps}
 use Rattle.spi_message.proofs.Questions.{asked_alone}
 use Rattle.spi_message.proofs.Goods.{filled_below, good_end, good_many, good_check}
-use Rattle.spi_message.proofs.Comparing.{on_ok}
 use Rattle.spi_message.proofs.Examining.{atom_gives, un_label}
 use Rattle.spi_message.proofs.goodness.is_good_atom.Goals as goal
 

@@ -1,6 +1,7 @@
 use Rattle.std.proofs.Common.{arith, refl, sym, ap, subst, IfOk, OnOk, List, ◌∙◌, ◌++◌, ◌∷◌, []}
 use Rattle.spi_intern.specs.declared.messages.MsgId.{MsgId}
 use Rattle.spi_term.specs.Term.{Message, name}
+use Rattle.spi_term.proofs.Choices.{on_ok}
 use Rattle.spi_intern.specs.Messages.{message_at}
 use Rattle.spi_intern.specs.Parts.{PartOf, whole, of_first, of_left, of_right, of_hash}
 use Rattle.spi_intern.proofs.Meanings.{means_keeps, terms_same, terms_more}
@@ -12,7 +13,7 @@ use Rattle.spi_message.proofs.FillsTypes.{given_keeps, pair_ty_of, un_of}
 use Rattle.spi_message.proofs.Standing.{environment_keeps}
 use Rattle.spi_message.proofs.Questions.{typed_as, labelled_as, bound_untyped, bound_unlabelled, unit_labelled, name_labelled, unit_typed, sealed_typed, sealed_untyped, hash_typed, hash_untyped, pair_untyped, left_side_typed, right_side_typed, left_side_untyped, right_side_untyped, side_given, pair_un, pair_un_not, pair_not, pair_pair, pair_labelled, pair_unlabelled, part_labelled, by_payload, by_un, not_by_un, asked_part, asked_later, asked_under, asked_alone, payload_is_given}
 use Rattle.spi_message.specs.Added.{TypingGives, LabelGives}
-use Rattle.spi_message.proofs.Comparing.{on_ok, no_typing, no_label, part_typing, part_label, label_typing, left_side_typing, right_side_typing, first_typing, both_typing, pair_typing, both_labels, payload_label, key_label, body_label}
+use Rattle.spi_message.proofs.Comparing.{no_typing, no_label, part_typing, part_label, label_typing, left_side_typing, right_side_typing, first_typing, both_typing, pair_typing, both_labels, payload_label, key_label, body_label}
 use Rattle.spi_message.proofs.typing.+typing.Goals as goal
 
 pub has_type-pair_has_type-requires : goal.has_type-pair_has_type-requires

@@ -1,13 +1,14 @@
 use Rattle.std.proofs.Common.{sym, subst}
-use Rattle.spi_infer.proofs.Passes.{size_pos}
 use Rattle.spi_infer.specs.Accounts.{IsNoted}
 use Rattle.spi_rules.specs.Blocking.{node_root}
 use Rattle.spi_rules.specs.Environment.{untrusted}
-use Rattle.spi_origin.proofs.Listed.{blocking_listed, if_ok}
+use Rattle.spi_term.proofs.Choices.{if_ok}
+use Rattle.spi_term.proofs.Sizes.{some_process}
+use Rattle.spi_origin.proofs.Listed.{blocking_listed}
 use Rattle.spi_origin.proofs.finding.blocked.Goals as goal
 
 pub gathered_from-requires-clause-from : goal.gathered_from-requires-clause-from
-gathered_from-requires-clause-from c = size_pos c.args.process.now.process
+gathered_from-requires-clause-from c = some_process c.args.process.now.process
 
 pub returns : goal.returns
 returns c =

@@ -1,12 +1,14 @@
 use Rattle.std.proofs.Common.{refl, sym, subst}
 use Rattle.spi_count.specs.Keeping.{GrowsTo}
-use Rattle.spi_infer.proofs.Descending.{some_node, length_untrusted}
+use Rattle.spi_infer.proofs.Descending.{some_node}
 use Rattle.spi_infer.proofs.Joining.{over_at}
 use Rattle.spi_origin.specs.Listing.{AreAll}
 use Rattle.spi_origin.specs.Origins.{IsOriginIn}
 use Rattle.spi_rules.specs.Environment.{untrusted}
+use Rattle.spi_rules.proofs.Typing.{length_untrusted}
 use Rattle.spi_term.specs.View.{atom}
-use Rattle.spi_origin.proofs.Listed.{origins_listed, noted_grows, if_ok}
+use Rattle.spi_term.proofs.Choices.{if_ok}
+use Rattle.spi_origin.proofs.Listed.{origins_listed, noted_grows}
 use Rattle.spi_origin.proofs.finding.origins.Goals as goal
 
 pub gathered_from-requires-clause-noted : goal.gathered_from-requires-clause-noted

@@ -1,13 +1,13 @@
 use Rattle.std.proofs.Common.{ap, sym, ◌∙◌}
+use Rattle.std.proofs.lemmas.Option.{slice_get_within}
 use Rattle.spi_replay.proofs.acting.take_showing.Goals as goal
-use Rattle.spi_intern.proofs.Lists.{get_below}
 use Rattle.spi_replay.specs.Moves.{event_of}
 use Rattle.spi_replay.proofs.Does.{acts_showing}
 use Rattle.spi_intern.proofs.Sized.{at_message}
 use Rattle.spi_replay.proofs.Takings.{taken_alone, leads_event}
 
 pub message_of-requires : goal.message_of-requires
-message_of-requires c = let a = acts_showing c.args.place.now c.requires.is c.requires.waits in get_below c.args.store.now.messages c.args.label.place a.message a.number
+message_of-requires c = let a = acts_showing c.args.place.now c.requires.is c.requires.waits in slice_get_within c.args.store.now.messages c.args.label.place a.message a.number
 
 pub entered-requires : goal.entered-requires
 entered-requires c = let a = acts_showing c.args.place.now c.requires.is c.requires.waits in record { values = a.values; enters = a.enters }

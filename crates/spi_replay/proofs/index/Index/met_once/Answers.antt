@@ -1,8 +1,8 @@
-use Rattle.std.proofs.Common.{◌≡◌, refl, ap, Some, slice_get}
+use Rattle.std.proofs.Common.{◌≡◌, length, refl, ap, Some, slice_get}
 use Rattle.std.specs.Prelude.{nat_eq, slice_set}
+use Rattle.std.proofs.lemmas.Option.{slice_get_read}
 use Rattle.indexmap.specs.IndexMap.{get}
 use Rattle.spi_replay.specs.Indexed.{out_channel, in_channel}
-use Rattle.spi_replay.proofs.Stepped.{got}
 use Rattle.spi_replay.proofs.Indexing.{has_rise, met_has}
 use Rattle.spi_replay.proofs.index.Index.met_once.Goals as goal
 
@@ -11,8 +11,8 @@ invariant_of-self-2 c =
     let ps = c.args.self.now.places.items in
     let o = c.index.result.now in
     let i = c.index-2.result.now in
-    let at : slice_get ps c.args.out ≡ Some o = got ps c.args.out o c.requires.out c.index.ensures in
-    let at' : slice_get ps c.args.inp ≡ Some i = got ps c.args.inp i c.requires.inp c.index-2.ensures in
+    let at : slice_get ps c.args.out ≡ Some o = slice_get_read ps (length ps) c.args.out o refl c.requires.out c.index.ensures in
+    let at' : slice_get ps c.args.inp ≡ Some i = slice_get_read ps (length ps) c.args.inp i refl c.requires.inp c.index-2.ensures in
     let qs = slice_set (slice_set ps c.args.out c.args.done) c.args.inp c.args.now in
     record {
       outs_are = met_has out_channel (get nat_eq c.args.self.now.outs) (get nat_eq c.turn_both.new.outs) ps qs c.args.out c.args.inp c.args.done c.args.now o i (ap out_channel c.requires.stays) at at' c.args.self.now.outs_are c.in_ok-turn_both.ensures.outs refl;

@@ -1,8 +1,7 @@
 use Rattle.std.proofs.Common.{◌≡◌, ℕ, ◌+◌, ◌++◌, List, [], map, length, get_or, sym, ap, ◌∙◌, subst, append-nil}
-use Rattle.std.proofs.lemmas.List.{length-map}
+use Rattle.std.proofs.lemmas.List.{length-map, drop_all}
 use Rattle.spi_scope.specs.Chains.{Pair, link, spelled_pair, AreNumbersBelow, LeadBack}
 use Rattle.spi_scope.specs.declared.trail.Link.{Link}
-use Rattle.spi_scope.proofs.Nesting.{drop_past}
 use Rattle.spi_scope.proofs.Trails.{pair_of, copied_more}
 use Rattle.spi_scope.proofs.trail.Trail.scopes.Goals as goal
 
@@ -10,11 +9,11 @@ pub invariant_of-result : goal.invariant_of-result
 invariant_of-result c =
     let links = c.loop-link.links.items in
     let old = c.self.inside.links.items in
-    let e = drop_past c.deref-link-items.result.now c.loop-link.link-index c.loop-link-test.false in
+    let e = drop_all c.loop-link.link-index c.deref-link-items.result.now c.loop-link-test.false in
     let same : map spelled_pair links ≡ map link old =
     sym (append-nil (map spelled_pair links)) ∙ ap (λ l. map spelled_pair links ++ map link l) (sym e) ∙ c.loop-link.invariant ∙ ap (map link) c.deref-link-items.ensures.value in
     let n : length links ≡ length old = sym (length-map links spelled_pair) ∙ ap length same ∙ length-map old link in
-    let f = drop_past c.deref-chain-items.result.now c.loop-chain.chain-index c.loop-chain-test.false in
+    let f = drop_all c.loop-chain.chain-index c.deref-chain-items.result.now c.loop-chain-test.false in
     let noted : c.loop-chain.noted.items ≡ c.self.inside.noted.items =
     sym (append-nil c.loop-chain.noted.items) ∙ ap (λ l. c.loop-chain.noted.items ++ l) (sym f) ∙ c.loop-chain.invariant ∙ c.deref-chain-items.ensures.value in (
       subst (λ (l : List Pair). LeadBack 1 l) (sym same) c.self.invariant.0,
