@@ -1,5 +1,5 @@
 -- Names of messages that are marked.
-use Rattle.std.proofs.Common.{◌≡◌, refl, sym, ap, ◌∙◌, ℕ, ◌<◌, Bool, true, false, true≢false, List, Some, ◌⊎◌, ⊎_elim, arith, max}
+use Rattle.std.proofs.Common.{◌≡◌, refl, sym, ap, ◌∙◌, ℕ, ◌<◌, Bool, true, false, true≢false, List, Some, ⊎_elim, arith, max}
 use Rattle.std.specs.Prelude.{if◌then◌else◌, slice_get, eqb}
 use Rattle.std.specs.BTreeMap.{BTreeMap}
 use Rattle.std.proofs.lemmas.Bool.{eqb-true, eqb-false, or_cases}

@@ -1,5 +1,5 @@
 -- Pairs and hashes, and the parts of a message by their numbers.
-use Rattle.std.proofs.Common.{◌≡◌, refl, sym, ◌∙◌, subst, ℕ, ◌<◌, length, ◌↔◌, Bool, true, false, true≢false, List, [], ◌∷◌, Some, None, ◌⊎◌}
+use Rattle.std.proofs.Common.{◌≡◌, refl, sym, ◌∙◌, subst, ℕ, ◌<◌, length, ◌↔◌, Bool, true, false, true≢false, List, [], ◌∷◌, Some, None}
 use Rattle.std.proofs.lemmas.Option.{slice_get_within}
 use Rattle.std.specs.Prelude.{slice_get}
 use Rattle.spi_term.specs.Substitution.{ty_put}

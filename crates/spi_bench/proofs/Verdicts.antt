@@ -6,7 +6,7 @@ use Rattle.spi_term.specs.View.{effect}
 use Rattle.spi_term.specs.Counts.{tally, count}
 use Rattle.spi_term.specs.Lists.{In, in_first, in_later}
 use Rattle.spi_term.specs.Names.{ProcessOver}
-use Rattle.spi_term.specs.Term.{Message, bound, name, unit, pair, in_left, in_right, enc, hash, Atom, ends, checks, many, same_atom, Effect, Ty, Process}
+use Rattle.spi_term.specs.Term.{name, Atom, checks, same_atom, Effect, Ty, Process}
 use Rattle.spi_term.proofs.Counting.{cut_le, same_atom_refl, same_atom_true, in_tally, tally_in}
 use Rattle.spi_effect.specs.Effect.{Within}
 use Rattle.spi_effect.proofs.Laws.{within_trans, within_in}
@@ -17,7 +17,7 @@ use Rattle.spi_rules.proofs.Paying.{has_pays}
 use Rattle.spi_infer.specs.Inferring.{IsLeast}
 use Rattle.spi_bench.specs.Parts.{Part, Benched, IsYes}
 use Rattle.spi_bench.specs.Whole.{whole_process_of, AreOver, AreShared, each_check, sum_of, AreLeast}
-use Rattle.spi_bench.specs.Sums.{blocked, placed, shared_name, place_of_atom, same_place, atom_times, of_least, if_none, of_slot, total}
+use Rattle.spi_bench.specs.Sums.{blocked, placed, place_of_atom, same_place, atom_times, of_least, if_none, of_slot, total}
 use Rattle.spi_message.specs.Judging.{Numbered}
 use Rattle.spi_bench.specs.Slots.{IsJudgedBench, slot_parts, AreInferred, HaveNoneTwice, slot_names}
 use Rattle.spi_bench.specs.declared.slot.Slot.{Slot}

@@ -9,11 +9,11 @@ use Rattle.spi_run.specs.Safety.{RobustlySafe, RobustlySafeMany}
 pub use Rattle.spi_spell.specs.Spelled.{limit, IsTreeOf, SpellsFile}
 
 -- The bytes are no more than a file may have, and their tokens spell this text, of whatever kind.
-pub record AreBytesOf {X : Type 0} (IsSpelled : X → List Token → Type 0) (bytes : List ℕ) (x : X) : Type 0 where
+pub record AreBytesOf {X : Type 0} (Spells : X → List Token → Type 0) (bytes : List ℕ) (x : X) : Type 0 where
   pub within : length bytes ≤ limit
   pub tokens : List Token
   pub lexed : Lexes bytes (Ok tokens)
-  pub spelled : IsSpelled x tokens
+  pub spelled : Spells x tokens
 
 -- the file's process has a typing derivation of empty effect, where its free names are untrusted
 abbrev pub IsDerivable : Meant → Type 0

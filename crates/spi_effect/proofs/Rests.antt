@@ -1,7 +1,7 @@
 -- Laws of what is still to be left out, and of the difference so far.
 use Rattle.std.proofs.Common.{◌≡◌, refl, sym, ◌∙◌, ap, subst, ℕ, suc, ◌-◌, ◌<◌, ◌≤◌, Bool, true, false, nat_lt, List, [], ◌∷◌, ◌++◌, Some, None, Option, length, map, ◌⊎◌, inl, inr, ⊎_elim, arith, ◌≢◌}
 use Rattle.std.proofs.lemmas.Bool.{cases_eq, cases_lt, ltb-true, ltb-false}
-use Rattle.std.proofs.lemmas.List.{get_or-set_same, get_or-set_other}
+use Rattle.std.proofs.lemmas.List.{map_push, get_or-set_same, get_or-set_other}
 use Rattle.std.proofs.lemmas.Option.{slice_get_within}
 use Rattle.std.specs.Prelude.{slice_get, slice_index}
 use Rattle.std.specs.List.Sorted.{IsPermutation}
@@ -121,9 +121,5 @@ difference_out {rs} {es} {fs} y d k = record { at = λ a. ⊎_elim (same a) (oth
     other a n = rw (tally_push_other a y es n) (d.at a)
 
 -- a push onto a list that is mapped
-map_push : {A B : Type 0} (f : A → B) (xs : List A) (x : A) → map f (xs ++ x ∷ []) ≡ map f xs ++ f x ∷ []
-map_push f [] x = refl
-map_push f (y ∷ xs) x = ap (λ l. f y ∷ l) (map_push f xs x)
-
 pub map_pushed : {A B : Type 0} (f : A → B) (xs ys : List A) (x : A) (b : B) → ys ≡ xs ++ x ∷ [] → f x ≡ b → map f ys ≡ map f xs ++ b ∷ []
 map_pushed f xs ys x b e h = ap (map f) e ∙ map_push f xs x ∙ ap (λ z. map f xs ++ z ∷ []) h

@@ -8,7 +8,7 @@ use Rattle.spi_tree.specs.Trees as t
 use Rattle.spi_tree.specs.Pieces.{Piece, kinds_in}
 use Rattle.spi_grammar.specs.Exactly.{kinds}
 use Rattle.spi_grammar.proofs.Cuts.{Cut, same, behind, before, cut, kinds_append}
-use Rattle.spi_parse.specs.Exact.{Spells, ItemBegins, NoItemGoesOn, PiecesStartDeep, NoDeepBefore, IsSyntaxAt, IsDeepAt}
+use Rattle.spi_parse.specs.Exact.{Spells, ItemBegins, PiecesStartDeep, NoDeepBefore, IsSyntaxAt, IsDeepAt}
 use Rattle.spi_parse.specs.Formed.{whole_file, IsFile}
 use Rattle.spi_parse.proofs.OneTree.{kinds_spelled}
 use Rattle.spi_parts.proofs.Bridge.{kinds_cells, deep_from}

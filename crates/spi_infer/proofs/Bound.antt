@@ -7,7 +7,6 @@ use Rattle.spi_term.specs.Term.{name, Ty}
 use Rattle.spi_term.specs.Substitution.{ty_put}
 use Rattle.spi_intern.specs.Meaning.{Means, Keeps}
 use Rattle.spi_intern.specs.declared.types.TyId.{TyId}
-use Rattle.spi_intern.specs.declared.store.Store.{Store}
 use Rattle.spi_intern.proofs.Meanings.{terms_same, terms_more}
 use Rattle.spi_message.specs.Judging.{Numbered, StandFor, IsKept}
 use Rattle.spi_message.proofs.Standing.{stand_push, stand_length}
@@ -122,6 +121,3 @@ reaches_less a b i k (wait r u ∷ ws) l h = go (if eqb r i then k - 1 else k) h
   where
     go : (n : ℕ) → a ≤ n → b ≤ n
     go n h = omega arith
-
-pub kept_itself : (s : Store) → Keeps s s
-kept_itself s = terms_same s

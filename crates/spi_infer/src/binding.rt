@@ -75,7 +75,7 @@ pub fn enter(alloc: Global, judge: &mut Judge, node: &Node) -> Result<(), NoMemo
 }
 
 /// The environment is cut back to a node's scope, and the type that waits for the node is bound.
-#[tactic(auto, using(crate::proofs::Bound::kept_itself))]
+#[tactic(auto, using(spi_intern::proofs::Meanings::terms_same))]
 pub fn settle(
     judge: &mut Judge,
     id: u32,

@@ -1,9 +1,8 @@
 -- What numbers mean stays.
 use Rattle.std.proofs.Common.{◌≡◌, ℕ, ◌+◌, ◌<◌, List, [], ◌∷◌, ◌++◌, Some, slice_get, refl, sym, ap, subst, ◌∙◌, map, take, get_or, length}
-use Rattle.std.proofs.lemmas.List.{take_more}
+use Rattle.std.proofs.lemmas.List.{take_more, map_push}
 use Rattle.spi_term.specs.Term as Term
 use Rattle.spi_term.specs.Term.{Message, Atom, Ty, unit_ty, pair_ty, sum_ty}
-use Rattle.spi_term.proofs.Lists.{map_more as map_end}
 use Rattle.spi_intern.specs.Table.{KeepsAll, TellsAll, tells_none}
 use Rattle.spi_intern.specs.Kinds as Kinds
 use Rattle.spi_intern.specs.Kinds.{Kind}
@@ -79,7 +78,7 @@ pub map_more : {A B : Type 0} (f : A → B) (xs ys : List A) (n : ℕ) (x : A) �
 map_more f xs ys n x v h e =
     let h' = subst (λ zs. n < length zs) v h in
     let e' = subst (λ zs. x ≡ get_or zs n x) v e in
-    sym (ap (map f) (take_more xs n x h' ∙ ap (λ y. take n xs ++ y ∷ []) (sym e')) ∙ map_end f (take n xs) x)
+    sym (ap (map f) (take_more xs n x h' ∙ ap (λ y. take n xs ++ y ∷ []) (sym e')) ∙ map_push f (take n xs) x)
 
 pub ids_next : {ms ns : List Message} {ids js : List AtomId} {i : AtomId} {es : List Atom} {a : Atom} → KeepsAll ms ns → TellsAll (SaysAtom ms) ids es → SaysAtom ns i a → js ≡ ids ++ i ∷ [] → TellsAll (SaysAtom ns) js (es ++ a ∷ [])
 ids_next {ns = ns} {es = es} {a = a} k h s g = subst (λ zs. TellsAll (SaysAtom ns) zs (es ++ a ∷ [])) (sym g) (tells_push (tells_map (atom_keeps k) h) s)

@@ -1,5 +1,5 @@
 -- Messages in the order of their numbers, and what the shallow nodes of the store say.
-use Rattle.std.specs.Prelude.{◌≡◌, ℕ, List, Option, Some, None, slice_get}
+use Rattle.std.specs.Prelude.{◌≡◌, ℕ, List, Some, slice_get}
 use Rattle.spi_term.specs.Term.{Message, bound, name, unit, pair, in_left, in_right, enc, hash, same_message}
 use Rattle.spi_intern.specs.Table.{with_value}
 use Rattle.spi_intern.specs.declared.messages.MsgId.{MsgId}

@@ -1,6 +1,7 @@
 -- Answers to questions over shared terms, form by form.
 use Rattle.std.proofs.Common.{◌≡◌, ℕ, zero, suc, ◌<◌, Bool, true, false, ◌&&◌, ◌||◌, List, [], ◌∷◌, ◌++◌, Option, Some, None, length, refl, sym, ap, subst, ◌∙◌, arith, Result, Ok, Err, IfOk}
 use Rattle.std.specs.Prelude.{slice_get, nat_lt, IfSome, IfNone, nat_eq}
+use Rattle.std.proofs.Math.Bool.{and-false}
 use Rattle.std.proofs.lemmas.Bool.{eqb-true, eq-eqb}
 use Rattle.spi_term.specs.Term.{Message, bound, name, unit, pair, in_left, in_right, enc, hash, Ty, un, pair_ty, sum_ty, key}
 use Rattle.spi_term.specs.SameTy.{SameTy}
@@ -27,7 +28,7 @@ use Rattle.spi_message.specs.Judging.{StandFor}
 use Rattle.spi_message.specs.Filling.{fill, filled, AllStay, values_of, AreIdsBelow, FillsTy}
 use Rattle.spi_message.specs.Asking.{IsEnvironment, IsAsked, IsTyped, IsLabelled, AreSides, sides_of_un, sides_of_sum, AreSidesOf, HasNoSides, IsKeyFor, IsNoKey, IsPayload, IsNoPayload}
 use Rattle.spi_message.specs.Tests.{is_un, is_unit, as_name, as_pair, as_left, as_right, key_in, type_of_key, by_key, typed, labelled}
-use Rattle.spi_message.proofs.Deciding.{and_false, key_alone}
+use Rattle.spi_message.proofs.Deciding.{key_alone}
 use Rattle.spi_message.proofs.Fills.{message_keeps, below_keeps, values_keep, all_below_keeps, none_below}
 use Rattle.spi_message.proofs.FillsTypes.{TwoTys, OneTy, given_keeps}
 use Rattle.spi_message.proofs.Standing.{stand_keeps, stand_at, stand_none_at, environment_keeps, stand_length}
@@ -361,7 +362,7 @@ not_by_un {s} {p} {env} {a} {k} {t} {vs} {c} w f u q l h y = record {
       let n = message_at s.messages k in
       let key_at = subst (λ us. IsTyped p env (message_at p.messages k) t us c) q h in
       let y1 : typed n e un ≡ false = sym (key_at.at e un (stand_keeps f st) u none_stay ∙ ap (λ m. typed m e un) (message_keeps k f.messages l)) ∙ y in
-      sym (and_false (typed a e un)) ∙ ap (λ c. typed a e un && c) (sym y1) ∙ sym (no_key_label e a n (w.at e st));
+      sym (and-false (typed a e un)) ∙ ap (λ c. typed a e un && c) (sym y1) ∙ sym (no_key_label e a n (w.at e st));
 }
 
 -- what is asked for

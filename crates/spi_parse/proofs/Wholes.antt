@@ -16,7 +16,7 @@ use Rattle.spi_parse.specs.Table.{Sym, Tree, msg, ty, decl, sproc, file}
 use Rattle.spi_parse.specs.Reading.{Fails, limited, told, read}
 use Rattle.spi_parse.specs.Formed.{IsFile, whole_file, whole_decl, whole_type, whole_message, whole_process, IsWholeDecl, IsWholeType, IsWholeMessage, IsWholeProcess}
 use Rattle.spi_parse.specs.Bare.{bare_msg, bare_ty, bare_decl, bare_proc, bare_file}
-use Rattle.spi_parse.specs.Exact.{Spells, ItemEnds, NoItemGoesOn, IsSyntaxAt, IsDeepAt, IsPartAt, IsNoPart, Reads, Parses}
+use Rattle.spi_parse.specs.Exact.{Spells, ItemEnds, IsSyntaxAt, IsDeepAt, IsPartAt, IsNoPart, Reads, Parses}
 use Rattle.spi_parse.specs.Faults.{fault_of_stop}
 use Rattle.spi_parse.proofs.Readers.{at}
 use Rattle.spi_parse.proofs.Spell.{spell, Formed}

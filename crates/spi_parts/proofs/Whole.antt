@@ -1,16 +1,16 @@
 -- Files: one answer, and one depth.
-use Rattle.std.proofs.Common.{◌≡◌, ℕ, List, [], ◌∷◌, Result, Ok, Err, refl, sym, ap, inl, inr}
+use Rattle.std.proofs.Common.{ℕ, List, [], Result, Ok, Err, refl, sym, ap, inl, inr}
 use Rattle.spi_lex.specs.declared.token.Token.{Token}
 use Rattle.spi_lex.specs.Lexing.{kinds_of, is_version_2}
 use Rattle.spi_tree.specs.Trees as t
-use Rattle.spi_tree.specs.Pieces.{Piece, opens, cell, closes, kinds_in}
+use Rattle.spi_tree.specs.Pieces.{kinds_in}
 use Rattle.spi_tree.specs.Formed.{AreWordsFit}
 use Rattle.spi_parse.specs.declared.fault.ParseFault.{ParseFault}
 use Rattle.spi_parse.specs.declared.fault.ParseFault.TheVariants as faults
 use Rattle.spi_parse.specs.Table.{file}
 use Rattle.spi_parse.specs.Bare.{bare_file}
 use Rattle.spi_parse.specs.Reading.{told}
-use Rattle.spi_parse.specs.Exact.{Parses, Spells}
+use Rattle.spi_parse.specs.Exact.{Parses}
 use Rattle.spi_parse.specs.Formed.{IsFile, whole_file}
 use Rattle.spi_parse.proofs.Complete.{told_fits, file_c}
 use Rattle.spi_parse.proofs.OneTree.{one_placed, kinds_spelled}

@@ -39,8 +39,10 @@ fault_told c (starts_step i n s) = ScheduleTooLong s (stopped n)
 
 -- what is wrong at a point, before which the running count is c
 abbrev pub fault_at : ℕ → Point → Option ScopeFault
-fault_at c (uses_name xs w) = if is_some (number_of xs w.word) then None else Some (fault_told c (uses_name xs w))
-fault_at c (uses_type ts w) = if is_some (type_of ts w.word) then None else Some (fault_told c (uses_type ts w))
+fault_at c (uses_name xs w) =
+    if is_some (number_of xs w.word) then None else Some (fault_told c (uses_name xs w))
+fault_at c (uses_type ts w) =
+    if is_some (type_of ts w.word) then None else Some (fault_told c (uses_type ts w))
 fault_at c (declares_name xs w) =
     if is_some (number_of xs w.word) then Some (fault_told c (declares_name xs w)) else None
 fault_at c (declares_type ts w) =

@@ -64,7 +64,7 @@ fn put_off(
     }
 }
 
-// A piece is written: of a process the next node, up to the first process in it. It gives the next node then.
+// A piece is written: of a process the next node, up to the first process in it. It gives the next node.
 fn put_piece(
     spell: &Spell,
     process: &Process,

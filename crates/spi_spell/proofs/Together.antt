@@ -1,5 +1,6 @@
 -- The tokens of bytes with a text behind them.
 use Rattle.std.proofs.Common.{◌≡◌, ℕ, ◌+◌, Bool, true, false, cond, ◌&&◌, List, [], ◌∷◌, ◌++◌, map, Option, Some, None, Result, Ok, refl, sym, ◌∙◌, ap, subst, arith}
+use Rattle.std.proofs.Math.Bool.{and-false}
 use Rattle.std.proofs.lemmas.Bool.{cond-false, and_parts}
 use Rattle.std.proofs.lemmas.List.{map-append}
 use Rattle.std.proofs.lemmas.Str.{IsUtf8-append}
@@ -37,16 +38,12 @@ view tokens (name_too_long n name u h l s long) e = absurd cc
 
 -- ---- which words are reserved
 
-and_false : (b : Bool) → (b && false) ≡ false
-and_false true = refl
-and_false false = refl
-
 reserved_second : (k : Kind) (w : Reserved) (ks : List Kind) → is_version_2 (k ∷ kinds.Reserved w ∷ ks) ≡ false
 reserved_second k w [] = refl
-reserved_second k w (c ∷ ks) = ap (λ (b : Bool). b && is_semicolon c) (and_false (is_version k))
+reserved_second k w (c ∷ ks) = ap (λ (b : Bool). b && is_semicolon c) (and-false (is_version k))
 
 reserved_third : (j k : Kind) (w : Reserved) (ks : List Kind) → is_version_2 (j ∷ k ∷ kinds.Reserved w ∷ ks) ≡ false
-reserved_third j k w ks = and_false (is_version j && is_two k)
+reserved_third j k w ks = and-false (is_version j && is_two k)
 
 abbrev first_token : LexPiece → Token
 first_token = token_of version_1

@@ -1,6 +1,6 @@
 -- What the functions on labels and begins keep.
 use Rattle.std.proofs.Common.{◌≡◌, refl, sym, ◌∙◌, ap, subst, ℕ, zero, suc, ◌+◌, ◌<◌, List, [], ◌∷◌, ◌++◌, length, map, take, get_or, replicate, Option, Some, None, slice_get, slice_set, arith}
-use Rattle.std.proofs.lemmas.List.{replicate-append-replicate}
+use Rattle.std.proofs.lemmas.List.{map_push, replicate-append-replicate}
 use Rattle.spi_term.specs.Term.{Message}
 use Rattle.spi_term.proofs.Lookup.{map_take_more}
 use Rattle.spi_term.proofs.Lists.{some_is}
@@ -21,13 +21,9 @@ numbered_next old new ns ns' es i x n m k t l e g f h =
     rw (h, map_take_more event es i x l e) u
 
 -- one more queue
-map_push : (qs : List Begins) (b : Begins) → map queue (qs ++ b ∷ []) ≡ map queue qs ++ queue b ∷ []
-map_push [] b = refl
-map_push (q ∷ qs) b = ap (λ l. queue q ∷ l) (map_push qs b)
-
 pub one_more : (old new : List Begins) (b : Begins) (n : ℕ) → new ≡ old ++ b ∷ [] → queue b ≡ no_begins → map queue old ≡ replicate n no_begins → map queue new ≡ replicate (n + 1) no_begins
 one_more old new b n f g h =
-    ap (map queue) f ∙ map_push old b ∙ ap (λ l. l ++ queue b ∷ []) h ∙ ap (λ q. replicate n no_begins ++ q ∷ []) g ∙ replicate-append-replicate n 1 no_begins
+    ap (map queue) f ∙ map_push queue old b ∙ ap (λ l. l ++ queue b ∷ []) h ∙ ap (λ q. replicate n no_begins ++ q ∷ []) g ∙ replicate-append-replicate n 1 no_begins
 
 -- what is at a place, and a change there
 map_at : (qs : List Begins) (n : ℕ) (d : Begins) → n < length qs → slice_get (map queue qs) n ≡ Some (queue (get_or qs n d))

@@ -7,7 +7,7 @@ use Rattle.spi_lex.specs.declared.token.Reserved.TheVariants as word
 use Rattle.spi_lex.specs.declared.token.Mark.TheVariants as mark
 use Rattle.spi_tree.specs.declared.tree.SWord.{SWord}
 use Rattle.spi_tree.specs.Trees as t
-use Rattle.spi_tree.specs.Pieces.{Piece, a_mark, a_reserved, ends, kinds_in, msg_pieces, msgs_pieces, atom_pieces, atoms_pieces, effect_pieces, ty_pieces, fields_pieces, last_pieces, named_pieces, binder_pieces, first_name_pieces, second_name_pieces, Place, in_seq, at_level, level_of, below, beside_place, proc_pieces, words_pieces, decl_pieces, decls_pieces, step_pieces, steps_pieces, written_pieces, deriv_pieces, derivs_pieces, version_pieces, opponent_pieces, schedule_pieces, derivation_pieces, file_pieces, tokens_of}
+use Rattle.spi_tree.specs.Pieces.{Piece, a_mark, a_reserved, ends, kinds_in, msg_pieces, msgs_pieces, atom_pieces, atoms_pieces, effect_pieces, ty_pieces, fields_pieces, last_pieces, named_pieces, binder_pieces, first_name_pieces, second_name_pieces, Place, below, beside_place, proc_pieces, words_pieces, decl_pieces, decls_pieces, step_pieces, steps_pieces, written_pieces, deriv_pieces, derivs_pieces, version_pieces, opponent_pieces, schedule_pieces, derivation_pieces, tokens_of}
 use Rattle.spi_tree.specs.Listed.{joined, mark_list, reserved_list, msg_list, msgs_list, atom_list, more_atom_list, effect_list, ty_list, fields_list, last_list, named_list, binder_list, first_list, second_list, both_list, matched_list, side_list, open_list, about_list, ended_list, proc_list, more_word_list, decl_list, step_list, written_list, deriv_list, derivs_list, version_list, opponent_list, schedule_list, derivation_list, file_list}
 
 mutual

@@ -1,13 +1,12 @@
 -- Where the nodes of a woven tree start: where the nodes and words of its narration do.
-use Rattle.std.proofs.Common.{◌≡◌, ℕ, ◌+◌, ◌≤◌, ◌==◌, Bool, true, false, List, [], ◌∷◌, ◌++◌, codes, if◌then◌else◌, length, slice_get, Some, ◌⊎◌, inl, inr, zero, suc, refl, sym, subst, arith}
-use Rattle.spi_lex.specs.declared.token.Kind.{Kind}
+use Rattle.std.proofs.Common.{◌≡◌, ℕ, ◌+◌, ◌≤◌, ◌==◌, Bool, true, false, List, [], ◌∷◌, ◌++◌, codes, if◌then◌else◌, length, slice_get, Some, inl, inr, zero, suc, sym, subst}
 use Rattle.spi_lex.specs.declared.token.Kind.TheVariants as kinds
 use Rattle.spi_lex.specs.declared.token.Mark.TheVariants as mark
 use Rattle.spi_lex.specs.declared.token.Reserved.TheVariants as word
 use Rattle.spi_text.specs.declared.lines.Span.{Span}
 use Rattle.spi_tree.specs.declared.tree.SWord.{SWord}
 use Rattle.spi_tree.specs.Trees as t
-use Rattle.spi_tree.specs.Pieces.{Piece, opens, cell, closes, Place, in_seq, at_level, nesting_of, below, ends, a_token, a_number, a_mark, a_reserved, msg_pieces, ty_pieces, named_pieces, words_pieces, proc_pieces, decl_pieces, decls_pieces, version_pieces, opponent_pieces}
+use Rattle.spi_tree.specs.Pieces.{Piece, opens, cell, closes, Place, at_level, below, ends, a_token, a_number, a_mark, a_reserved, msg_pieces, ty_pieces, named_pieces, words_pieces, proc_pieces, decl_pieces, decls_pieces, version_pieces, opponent_pieces}
 use Rattle.spi_parse.specs.Formed.{whole_file}
 use Rattle.spi_parts.proofs.Behind.{msg_behind, ty_behind, decl_behind}
 use Rattle.spi_heading.specs.Headings.{Shared}
@@ -19,7 +18,7 @@ use Rattle.spi_narrate.specs.declared.fault.NarrateFault.{NarrateFault}
 use Rattle.spi_narrate.specs.declared.fault.NarrateFault.TheVariants as faults
 use Rattle.spi_narrate.specs.Faults.{FaultItem, declares, speaks, counts, fault_of, shared_items, role_items, line_items, items_of, IsFirstFault}
 use Rattle.spi_weave.specs.Starts.{StartBy}
-use Rattle.spi_weave.specs.Woven.{prefixed, name_spelled, sent, received, woven_prefix, is_word, role_part, role_process, roles_beside, roles_together, sharing, last_span, woven}
+use Rattle.spi_weave.specs.Woven.{prefixed, sent, received, woven_prefix, is_word, role_part, role_process, roles_beside, roles_together, sharing, last_span, woven}
 use Rattle.spi_weave.proofs.Forming.{split_same, match_same, decrypt_same, check_same, label_same, cast_same, new_same}
 
 module _ (end : ℕ) where
