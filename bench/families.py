@@ -5,8 +5,8 @@ The plain checker was written for speed, with no proofs and no contracts; what i
 file. Instructions are counted by `valgrind --tool=callgrind`, which counts the same whatever else a machine does. Usage:
 bench/families.py [--program FILE] [--only WORD] [--most RATIO]. Without --program it takes the proved build,
 crates/cryptyc/out/cryptyc. It prints a row of a Markdown table for each family: its largest file, the file's bytes, the
-instructions of both, their ratio, the instructions a byte, and how the instructions grow, as the exponent between that file
-and one a quarter as large. The status is 1 where a ratio is above --most."""
+instructions of both, their ratio, the instructions a byte and a node, and how the instructions grow, as the exponent between
+that file and one a quarter as large. The status is 1 where a ratio is above --most."""
 
 import argparse
 import csv
@@ -18,6 +18,7 @@ import sys
 import tempfile
 
 from check import ROOT, balanced, stop_without
+from nodes import nodes_of
 
 COUNTS = f"{ROOT}/bench/families.tsv"
 MB = 1 << 20
@@ -210,17 +211,17 @@ FAMILIES = {
 
 
 def counted(program, family, size):
-    """The bytes of a family's file, and the instructions that the program takes for it."""
+    """A family's file, and the instructions that the program takes for it."""
     command, make = FAMILIES[family]
-    text = make(size).encode() if make else b""
+    text = make(size) if make else ""
     words = [command] if make else [command, str(size)]
     with tempfile.TemporaryDirectory() as folder:
         run = subprocess.run(["valgrind", "--tool=callgrind", f"--callgrind-out-file={folder}/out", program, *words],
-                             input=text, stdout=subprocess.DEVNULL, stderr=subprocess.PIPE)
+                             input=text.encode(), stdout=subprocess.DEVNULL, stderr=subprocess.PIPE)
     found = re.search(rb"Collected : (\d+)", run.stderr)
     if not found:
         sys.exit(f"{family} {size}: valgrind counted nothing: {run.stderr[-400:].decode(errors='replace')}")
-    return len(text), int(found[1])
+    return text, int(found[1])
 
 
 def plain_counts():
@@ -241,13 +242,15 @@ def main():
     stop_without(asked.program)
     start = counted(asked.program, "tiny", 1)[1]
     worst = 0.0
-    print("| Family | Size | Bytes | Plain | Cryptyc | Ratio | A byte | Growth |\n|---|---|---|---|---|---|---|---|")
+    columns = ("Family", "Size", "Bytes", "Plain", "Cryptyc", "Ratio", "A byte", "A node", "Growth")
+    print(f"| {' | '.join(columns)} |\n|{'---|' * len(columns)}")
     for family, plain in plain_counts().items():
         if family == "tiny" or asked.only not in family:
             continue
         large = max(plain)
         small = max((size for size in plain if size * 4 <= large), default=large)
-        size, count = counted(asked.program, family, large)
+        text, count = counted(asked.program, family, large)
+        size, nodes = len(text.encode()), nodes_of(text)
         ratio = count / plain[large]
         worst = max(worst, ratio)
         growth = "-"
@@ -255,8 +258,10 @@ def main():
             less = counted(asked.program, family, small)[1]
             growth = f"{math.log((count - start) / (less - start)) / math.log(large / small):.2f}"
         a_byte = f"{count / size:.0f}" if size else "-"
-        print(f"| {family} | {large} | {size:,} | {plain[large] / 1e6:.1f} | {count / 1e6:.1f} | {ratio:.1f} | {a_byte} | {growth} |",
-              flush=True)
+        a_node = f"{count / nodes:.0f}" if nodes > 100 else "-"
+        millions = f"{plain[large] / 1e6:.1f}", f"{count / 1e6:.1f}"
+        cells = (family, large, f"{size:,}", *millions, f"{ratio:.1f}", a_byte, a_node, growth)
+        print(f"| {' | '.join(map(str, cells))} |", flush=True)
     print(f"worst ratio: {worst:.1f}")
     return 1 if worst > asked.most else 0
 

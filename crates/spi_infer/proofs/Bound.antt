@@ -5,12 +5,14 @@ use Rattle.std.proofs.lemmas.List.{take-append-le, take_all, length_push}
 use Rattle.std.proofs.Math.Seq.{take-append-add}
 use Rattle.spi_term.specs.Term.{name, Ty}
 use Rattle.spi_term.specs.Substitution.{ty_put}
+use Rattle.spi_term.specs.Spelling.{Shape}
+use Rattle.spi_rules.specs.Environment.{Env}
 use Rattle.spi_intern.specs.Meaning.{Means, Keeps}
 use Rattle.spi_intern.specs.declared.types.TyId.{TyId}
 use Rattle.spi_intern.proofs.Meanings.{terms_same, terms_more}
 use Rattle.spi_message.specs.Judging.{Numbered, StandFor, IsKept}
 use Rattle.spi_message.proofs.Standing.{stand_push, stand_length}
-use Rattle.spi_infer.specs.Passes.{Wait, wait, settled, IsCalm}
+use Rattle.spi_infer.specs.Passes.{Wait, wait, entered, settled, IsCalm}
 use Rattle.spi_message.specs.Tested.{Turns}
 use Rattle.spi_infer.specs.Walking.{IsAbove}
 use Rattle.spi_infer.specs.Waiting.{ReachesUpTo}
@@ -51,24 +53,30 @@ turns_bound j k l i t h m q g = record {
       subst (λ ids. StandFor l.store ids (e ++ t ∷ [])) (sym g) (subst (λ r. StandFor r (k.types ++ i ∷ []) (e ++ t ∷ [])) (sym q) w);
 }
 
-pub turns_bind : {A E : Type 0} (j k l : Numbered) (i : TyId) (t : Ty) → IsKept j k → Means k.store i.place t → l.store ≡ k.store → (r : Result A E) → OnOk r (l.types ≡ k.types ++ i ∷ []) → OnOk r (Turns j l (λ e. e ++ t ∷ []))
-turns_bind j k l i t h m q (Ok x) g = turns_bound j k l i t h m q g
-turns_bind j k l i t h m q (Err x) g = tt
+pub turns_bind_all : {A E : Type 0} (j k l : Numbered) (i : TyId) → IsKept j k → l.store ≡ k.store → (r : Result A E) → OnOk r (l.types ≡ k.types ++ i ∷ []) → OnOk r ((t : Ty) → Means k.store i.place t → Turns j l (λ e. e ++ t ∷ []))
+turns_bind_all j k l i h q (Ok x) g = λ t m. turns_bound j k l i t h m q g
+turns_bind_all j k l i h q (Err x) g = tt
 
 pub more_bind : {A E : Type 0} (j k l : Numbered) (i : TyId) → IsKept j k → (r : Result A E) → OnOk r (l.types ≡ k.types ++ i ∷ []) → OnOk r (length l.types ≡ length j.types + 1)
 more_bind j k l i h (Ok x) g =
     ap length g ∙ length_push k.types i ∙ ap (λ ids. length ids + 1) h.types
 more_bind j k l i h (Err x) g = tt
 
-pub turns_split : {A E : Type 0} (j k l : Numbered) (t u : Ty) (n : ℕ) → n ≡ length j.types → Turns j k (λ e. e ++ t ∷ []) → (r : Result A E) → OnOk r (Turns k l (λ e. e ++ ty_put (name n) u ∷ [])) → OnOk r (Turns j l (λ e. e ++ t ∷ (ty_put (name (length e)) u ∷ [])))
-turns_split j k l t u n q f (Ok x) g = record {
+pub turns_later : (j k l : Numbered) (f : Env → Env) → Turns j k f → IsKept k l → Turns j l f
+turns_later j k l f t h = record { at = λ e s. stands_kept {j = k} {k = l} h (t.at e s) }
+
+pub turns_split : (j k l : Numbered) (t u : Ty) (n : ℕ) → n ≡ length j.types → Turns j k (λ e. e ++ t ∷ []) → Turns k l (λ e. e ++ ty_put (name n) u ∷ []) → Turns j l (λ e. e ++ t ∷ (ty_put (name (length e)) u ∷ []))
+turns_split j k l t u n q f g = record {
   at = λ e s.
       let w = g.at (e ++ t ∷ []) (f.at e s) in
       let p : (e ++ t ∷ []) ++ ty_put (name n) u ∷ [] ≡ e ++ t ∷ (ty_put (name (length e)) u ∷ [])
       = append_assoc e (t ∷ []) (ty_put (name n) u ∷ []) ∙ ap (λ m. e ++ t ∷ (ty_put (name m) u ∷ [])) (q ∙ stand_length s) in
       subst (λ e. StandFor l.store l.types e) p w;
 }
-turns_split j k l t u n q f (Err x) g = tt
+
+-- what a form binds, where the form is known
+pub entered_as : {A E : Type 0} (j k : Numbered) {x y : Shape} → x ≡ y → (r : Result A E) → OnOk r (Turns j k (λ e. entered e y)) → OnOk r (Turns j k (λ e. entered e x))
+entered_as j k q r = subst (λ x. OnOk r (Turns j k (λ e. entered e x))) (sym q)
 
 -- fewer names
 take_over : {A : Type 0} (n : ℕ) (xs ys : List A) → length xs ≤ n → take n (xs ++ ys) ≡ xs ++ take (n - length xs) ys

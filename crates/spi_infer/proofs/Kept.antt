@@ -120,6 +120,9 @@ pub fits_at : {E : Type 0} (j k : Numbered) (ks : Keys) (x : Shape) {y : Shape} 
 fits_at j k ks x {y = y} q (Ok own) h f = subst (λ x. FitsIn j k ks x own) (sym q) (record { at = f own h })
 fits_at j k ks x q (Err e) h f = tt
 
+pub fits_as : (j k : Numbered) (ks : Keys) {x y : Shape} (own : Own) → x ≡ y → ((e : Env) → Stands j e → IsOwnOf k.store (with_keys k.store ks) y (note_of e y).paid own) → FitsIn j k ks x own
+fits_as j k ks own q f = subst (λ x. FitsIn j k ks x own) (sym q) (record { at = f })
+
 -- the label of a begin
 pub begin_fits : (j k : Numbered) (ks : Keys) (x : Shape) {n b : ℕ} {m : Message} (id : MsgId) → x ≡ prefix_at n (Begins m) b → slice_get k.store.messages id.place ≡ Some m → FitsIn j k ks x (Label id)
 begin_fits j k ks x id q h = subst (λ x. FitsIn j k ks x (Label id)) (sym q) (record { at = λ e s. (id, refl, h) })

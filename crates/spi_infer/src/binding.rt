@@ -2,74 +2,84 @@
 ghost use Rattle.std.specs.Prelude.{◌≡◌, ◌+◌, ◌-◌, ◌<◌, ◌≤◌, List, [], ◌∷◌, ◌++◌, OnOk, length};
 ghost use Rattle.spi_term.specs.Term.{name};
 ghost use Rattle.spi_term.specs.Substitution.{ty_put};
-ghost use Rattle.spi_term.specs.View.{message, ty as type_of, shape_of};
+ghost use Rattle.spi_term.specs.Term as Term;
+ghost use Rattle.spi_term.specs.View.{shape_of};
 ghost use Rattle.spi_intern.specs.Meaning.{Keeps};
 ghost use Rattle.spi_message.specs.Judging.{Numbered};
 ghost use Rattle.spi_infer.specs.Passes.{Wait, entered, settled, left_waiting};
 ghost use Rattle.spi_infer.specs.Waiting.{Queued, CanReach};
-ghost use Rattle.spi_message.specs.Tested.{Turns};
+ghost use Rattle.spi_message.specs.Tested.{NumbersMessage, NumbersType, Turns};
+ghost use Rattle.spi_infer.specs.Terms.{IsMessage, IsType, AreTermsOf};
 ghost use Rattle.spi_infer.specs.Walking.{IsAbove};
 
+use crate::terms::Terms;
 use crate::waiting::{Pending, due};
+use spi_intern::{MsgId, TyId};
 use spi_message::{Judge, NoMemory, cut_to};
-use spi_term::{Form, Msg, Node, Ty};
+use spi_term::{Form, Msg, Node};
 use std::alloc::Global;
 
-// One more name of this type.
+// One more name of the type with this number.
 #[tactic(auto, using(crate::proofs::Bound::above_kept))]
-fn bind_type(alloc: Global, judge: &mut Judge, t: &Ty) -> Result<(), NoMemory>
-    requires { length judge.old.types ≤ 400000 }
-    ensures bound { OnOk result (Turns judge.old judge.new (λ e. e ++ type_of t.now ∷ [])) }
+fn bind_type(judge: &mut Judge, id: TyId) -> Result<(), NoMemory>
+    requires room { length judge.old.types ≤ 400000 }
+    requires ty { IsType judge.old id }
+    ensures bound { OnOk result
+        ((t : Term.Ty) → NumbersType judge.old id t → Turns judge.old judge.new (λ e. e ++ t ∷ [])) }
     ensures more { OnOk result (length judge.new.types ≡ length judge.old.types + 1) }
     ensures above { IsAbove judge.old judge.new }
 {
-    let id = judge.ty(alloc, t)?;
     judge.bind(id)
 }
 
-// One more name, of a type that stands under a binder, for which this message stands.
+// One more name, of a type that stands under a binder, for which the message with this number stands.
 #[tactic(auto, using(crate::proofs::Bound::above_kept, crate::proofs::Bound::above_more))]
-fn bind_opened(alloc: Global, judge: &mut Judge, t: &Ty, value: &Msg) -> Result<(), NoMemory>
-    requires { length judge.old.types ≤ 400000 }
+fn bind_opened(alloc: Global, judge: &mut Judge, id: TyId, value: MsgId) -> Result<(), NoMemory>
+    requires room { length judge.old.types ≤ 400000 }
+    requires ty { IsType judge.old id }
+    requires message { IsMessage judge.old value }
     ensures bound { OnOk result
-        (Turns judge.old judge.new (λ e. e ++ ty_put (message value.now) (type_of t.now) ∷ [])) }
+        ((t : Term.Ty) (m : Term.Message) → NumbersType judge.old id t → NumbersMessage judge.old value m
+        → Turns judge.old judge.new (λ e. e ++ ty_put m t ∷ [])) }
     ensures above { IsAbove judge.old judge.new }
 {
-    let id = judge.ty(alloc, t)?;
-    let m = judge.message(value)?;
-    let filled = judge.opened(alloc, id, m)?;
+    let filled = judge.opened(alloc, id, value)?;
     judge.bind(filled)
 }
 
-#[tactic(auto, using(crate::proofs::Bound::above_more))]
-fn enter_split(alloc: Global, judge: &mut Judge, first: &Ty, second: &Ty) -> Result<(), NoMemory>
-    requires { length judge.old.types ≤ 300001 }
+#[tactic(auto, using(crate::proofs::Bound::above_kept, crate::proofs::Bound::above_more))]
+fn enter_split(alloc: Global, judge: &mut Judge, terms: Terms) -> Result<(), NoMemory>
+    requires room { length judge.old.types ≤ 300001 }
+    requires first { IsType judge.old terms.ty }
+    requires second { IsType judge.old terms.second }
     ensures bound { OnOk result
-        (Turns judge.old judge.new
-        (λ e. e ++ type_of first.now ∷ (ty_put (name (length e)) (type_of second.now) ∷ []))) }
+        ((t u : Term.Ty) → NumbersType judge.old terms.ty t → NumbersType judge.old terms.second u
+        → Turns judge.old judge.new (λ e. e ++ t ∷ (ty_put (name (length e)) u ∷ []))) }
     ensures above { IsAbove judge.old judge.new }
 {
     let name = Msg::Name(judge.len());
-    bind_type(alloc, judge, first)?;
-    bind_opened(alloc, judge, second, &name)
+    bind_type(judge, terms.ty)?;
+    let value = judge.message(&name)?;
+    bind_opened(alloc, judge, terms.second, value)
 }
 
-/// The names that a form binds in its first process are bound.
+/// The names that a form binds in its first process are bound, by the numbers of its terms.
 #[tactic(auto, using(crate::proofs::Bound::turns_same, crate::proofs::Bound::turns_nil, crate::proofs::Bound::above_same))]
-pub fn enter(alloc: Global, judge: &mut Judge, node: &Node) -> Result<(), NoMemory>
-    requires { length judge.old.types ≤ 300001 }
+pub fn enter(alloc: Global, judge: &mut Judge, node: &Node, terms: Terms) -> Result<(), NoMemory>
+    requires room { length judge.old.types ≤ 300001 }
+    requires terms { AreTermsOf judge.old (shape_of node.now) terms }
     ensures bound { OnOk result (Turns judge.old judge.new (λ e. entered e (shape_of node.now))) }
     ensures above { IsAbove judge.old judge.new }
 {
     match &node.form {
-        Form::Recv { ty, .. } => bind_type(alloc, judge, ty),
-        Form::Serve { ty, .. } => bind_type(alloc, judge, ty),
-        Form::Split { first, second, .. } => enter_split(alloc, judge, first, second),
-        Form::Select { equal, second, .. } => bind_opened(alloc, judge, second, equal),
-        Form::Branch { left, .. } => bind_type(alloc, judge, left),
-        Form::Decrypt { ty, .. } => bind_type(alloc, judge, ty),
-        Form::Cast { ty, .. } => bind_type(alloc, judge, ty),
-        Form::Fresh { ty, .. } => bind_type(alloc, judge, ty),
+        Form::Recv { .. } => bind_type(judge, terms.ty),
+        Form::Serve { .. } => bind_type(judge, terms.ty),
+        Form::Split { .. } => enter_split(alloc, judge, terms),
+        Form::Select { .. } => bind_opened(alloc, judge, terms.second, terms.other),
+        Form::Branch { .. } => bind_type(judge, terms.ty),
+        Form::Decrypt { .. } => bind_type(judge, terms.ty),
+        Form::Cast { .. } => bind_type(judge, terms.ty),
+        Form::Fresh { .. } => bind_type(judge, terms.ty),
         _ => Ok(()),
     }
 }

@@ -16,6 +16,7 @@ use crate::binding::{enter, settle};
 use crate::keeping::own_note;
 use crate::own::{Noted, OwnNote};
 use crate::steps::Steps;
+use crate::terms::terms_of;
 use crate::waiting::{Pending, put_off};
 use spi_count::Keys;
 use spi_message::{Judge, NoMemory, cut_to};
@@ -50,9 +51,10 @@ fn visit(
         → IsAbove first judge.new }
 {
     settle(judge, id, node.scope, pending)?;
-    let note = own_note(alloc, judge, keys, node)?;
-    enter(alloc, judge, node)?;
-    put_off(alloc, judge, node, pending)?;
+    let terms = terms_of(alloc, judge, node)?;
+    let note = own_note(alloc, judge, keys, node, terms)?;
+    enter(alloc, judge, node, terms)?;
+    put_off(node, terms, pending)?;
     Ok(note)
 }
 

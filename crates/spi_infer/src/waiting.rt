@@ -1,14 +1,15 @@
 // Types that wait for the second processes of cases.
-ghost use Rattle.std.specs.Prelude.{◌≡◌, List, ◌∷◌, reverse, IfOk, OnOk, IfSome, IfNone};
-ghost use Rattle.spi_term.specs.View.{ty as type_of, shape_of};
-ghost use Rattle.spi_message.specs.Judging.{IsKept};
-ghost use Rattle.spi_infer.specs.Passes.{Wait, wait, waiting};
+ghost use Rattle.std.specs.Prelude.{◌≡◌, List, reverse, IfOk, OnOk, IfSome, IfNone};
+ghost use Rattle.spi_term.specs.View.{shape_of};
+ghost use Rattle.spi_message.specs.Judging.{Numbered};
+ghost use Rattle.spi_infer.specs.Passes.{Wait, waiting};
+ghost use Rattle.spi_infer.specs.Terms.{AreTermsOf};
 ghost use Rattle.spi_infer.specs.Waiting.{Queued, IsDue, IsNotDue};
 
+use crate::terms::Terms;
 use spi_intern::TyId;
-use spi_message::{Judge, NoMemory};
-use spi_term::{Form, Node, Ty};
-use std::alloc::Global;
+use spi_message::NoMemory;
+use spi_term::{Form, Node};
 
 /// The number of a type that waits for the second process of a case, and the number of the node at which that process
 /// begins.
@@ -18,43 +19,21 @@ pub struct Pending {
     pub ty: TyId,
 }
 
-// One more type waits.
-fn push_pending(
-    alloc: Global,
-    judge: &mut Judge,
-    at: u32,
-    t: &Ty,
-    pending: &mut Vec<Pending>,
-) -> Result<(), NoMemory>
-    ensures waits { OnOk result
-        ((ws : List Wait) → Queued judge.old.store pending.old.items ws
-        → Queued judge.new.store pending.new.items (wait at (type_of t.now) ∷ ws)) }
-    ensures kept { IsKept judge.old judge.new }
-{
-    let ty = judge.ty(alloc, t)?;
-    pending.push(Pending { at, ty })?;
-    Ok(())
-}
-
-/// The type of a case's second name waits for its process.
-#[tactic(auto, using(spi_message::proofs::Tested::kept_same))]
-pub fn put_off(
-    alloc: Global,
-    judge: &mut Judge,
-    node: &Node,
-    pending: &mut Vec<Pending>,
-) -> Result<(), NoMemory>
-    ensures waits { OnOk result
-        ((ws : List Wait) → Queued judge.old.store pending.old.items ws
-        → Queued judge.new.store pending.new.items (waiting ws (shape_of node.now))) }
-    ensures kept { IsKept judge.old judge.new }
+/// The type of a case's second name waits for its process, by its number.
+pub fn put_off(node: &Node, terms: Terms, pending: &mut Vec<Pending>) -> Result<(), NoMemory>
+    ensures { OnOk result
+        ((j : Numbered) (ws : List Wait) → AreTermsOf j (shape_of node.now) terms
+        → Queued j.store pending.old.items ws
+        → Queued j.store pending.new.items (waiting ws (shape_of node.now))) }
 {
     match &node.form {
-        Form::Branch {
-            right,
-            on_right,
-            ..
-        } => push_pending(alloc, judge, *on_right, right, pending),
+        Form::Branch { on_right, .. } => {
+            pending.push(Pending {
+                at: *on_right,
+                ty: terms.second,
+            })?;
+            Ok(())
+        }
         _ => Ok(()),
     }
 }

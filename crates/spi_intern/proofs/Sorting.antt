@@ -228,6 +228,17 @@ pub cut_to : {E : Type 0} (xs ys zs : List AtomId) → zs ≡ ys → IsPermutati
 cut_to xs ys zs v p s (Ok kept) e = record { at = λ a. ap (times a) (e ∙ ap without_repeats v) ∙ times_cut a ys (sorted_order ys s) ∙ ap (cut_times a) (times_sorted a xs ys p) }
 cut_to xs ys zs v p s (Err x) e = tt
 
+-- a list of one atom at most is in order, and has no repeats
+pub short_order : (xs : List AtomId) → length xs < 2 → InOrder xs
+short_order [] h = order_none
+short_order (x ∷ []) h = order_next (λ z n. ⊎_elim (λ e. subst (IsNotAfter x) (sym (atom_same z x e)) (itself x)) (λ m. absurd (omega arith)) (two_ways (same_id_atom z x) 0 n)) order_none
+short_order (x ∷ (y ∷ xs)) h = absurd (omega arith)
+
+pub short_cut : (xs : List AtomId) → length xs < 2 → IsCutTo xs xs
+short_cut [] h = record { at = λ a. sym (cut_none a) }
+short_cut (x ∷ []) h = record { at = λ a. times_cut a (x ∷ []) (short_order (x ∷ []) h) }
+short_cut (x ∷ (y ∷ xs)) h = absurd (omega arith)
+
 -- what is left from a place on
 pub repeats_none : (xs : List AtomId) (n : ℕ) → length xs ≤ n + 1 → repeats (drop n xs) ≡ false
 repeats_none [] zero h = refl

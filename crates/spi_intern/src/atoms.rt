@@ -112,6 +112,9 @@ pub fn canonical(alloc: Global, mut ids: Vec<AtomId>) -> Result<Vec<AtomId>, NoM
     ensures order { IfOk result (λ kept. InOrder kept.items) }
     ensures counts { IfOk result (λ kept. IsCutTo ids.items kept.items) }
 {
+    if ids.len() < 2 {
+        return Ok(ids);
+    }
     ids.sort()?;
     without_repeated(alloc, &ids)
 }

@@ -16,14 +16,14 @@ use Rattle.spi_intern.specs.declared.atoms.AtomId.{AtomId}
 use Rattle.spi_intern.specs.declared.store.Store.{Store}
 use Rattle.spi_intern.specs.declared.store.TyPart.{TyPart}
 use Rattle.spi_intern.specs.declared.store.TyPart.TheVariants.{Nonce}
-use Rattle.spi_intern.proofs.Meanings.{terms_same, terms_more}
+use Rattle.spi_intern.proofs.Meanings.{terms_same, terms_more, means_keeps}
 use Rattle.spi_message.specs.Judging.{Numbered, Stands, StandFor, IsKept}
 use Rattle.spi_message.specs.Asking.{IsEnvironment}
 use Rattle.spi_message.specs.Tests.{typed, labelled, good, nonce_in}
 use Rattle.spi_message.proofs.Deciding.{typed_true, typed_from, labelled_true, labelled_from, good_true, good_from}
 use Rattle.spi_message.proofs.Standing.{stand_keeps, stand_at, stand_none_at}
 use Rattle.spi_message.specs.Forms.{is_nonce}
-use Rattle.spi_message.specs.Tested.{IsTest, IsNonceAt, IsNoNonce}
+use Rattle.spi_message.specs.Tested.{IsTest, NumbersMessage, NumbersType, IsNonceAt, IsNoNonce}
 use denote.Ref.{Bor}
 
 pub kept_more : {a b c : Numbered} → IsKept a b → IsKept b c → IsKept a c
@@ -42,15 +42,35 @@ env_kept {j} {k} h s = record { env = s.env; stands = stands_kept {j = j} {k = k
 pub message_kept : {j k : Numbered} (i : ℕ) (m : Message) → IsKept j k → slice_get j.store.messages i ≡ Some m → slice_get k.store.messages i ≡ Some m
 message_kept i m h e = h.store.messages.at i m e
 
--- questions
-pub typed_test : {E : Type 0} (j k l : Numbered) (i : MsgId) (t : TyId) (m : Message) (u : Ty) → IsKept j k → IsKept k l → slice_get k.store.messages i.place ≡ Some m → Means l.store t.place u → (r : Result Bool E) → IfOk r (λ b. (e : Env) (n : Message) (v : Ty) → Stands l e → slice_get l.store.messages i.place ≡ Some n → Means l.store t.place v → (b ≡ true) ↔ HasType [] e n v) → IfOk r (IsTest j (λ e. typed m e u))
-typed_test j k l i t m u h g a w (Ok b) f = record {
-  at = λ e s.
-      let q = f e m u (stands_kept {j = j} {k = l} (kept_more h g) s) (message_kept {j = k} {k = l} i.place m g a) w in
-      truths b (typed m e u) (λ y. typed_from (q.0 y)) (λ y. q.1 (typed_true m e u y));
-}
-typed_test j k l i t m u h g a w (Err x) f = tt
+pub type_kept : {j k : Numbered} (i : ℕ) (t : Ty) → IsKept j k → Means j.store i t → Means k.store i t
+type_kept i t h m = means_keeps h.store m
 
+-- questions about numbers
+pub typed_answer : {E : Type 0} (j : Numbered) (i : MsgId) (t : TyId) (r : Result Bool E) → IfOk r (λ b. (e : Env) (n : Message) (v : Ty) → Stands j e → slice_get j.store.messages i.place ≡ Some n → Means j.store t.place v → (b ≡ true) ↔ HasType [] e n v) → IfOk r (λ b. (n : Message) (u : Ty) → NumbersMessage j i n → NumbersType j t u → IsTest j (λ e. typed n e u) b)
+typed_answer j i t (Ok b) f = λ n u a w. record {
+  at = λ e s.
+      let q = f e n u s a w in
+      truths b (typed n e u) (λ y. typed_from (q.0 y)) (λ y. q.1 (typed_true n e u y));
+}
+typed_answer j i t (Err x) f = tt
+
+pub labelled_answer : {E : Type 0} (j : Numbered) (i : MsgId) (r : Result Bool E) → IfOk r (λ b. (e : Env) (n : Message) → Stands j e → slice_get j.store.messages i.place ≡ Some n → (b ≡ true) ↔ IsLabel [] e n) → IfOk r (λ b. (n : Message) → NumbersMessage j i n → IsTest j (labelled n) b)
+labelled_answer j i (Ok b) f = λ n a. record {
+  at = λ e s.
+      let q = f e n s a in
+      truths b (labelled n e) (λ y. labelled_from (q.0 y)) (λ y. q.1 (labelled_true n e y));
+}
+labelled_answer j i (Err x) f = tt
+
+pub good_answer : {E : Type 0} (j : Numbered) (t : TyId) (r : Result Bool E) → IfOk r (λ b. (e : Env) (v : Ty) → Stands j e → Means j.store t.place v → (b ≡ true) ↔ GoodTy [] e v) → IfOk r (λ b. (u : Ty) → NumbersType j t u → IsTest j (λ e. good e u) b)
+good_answer j t (Ok b) f = λ u w. record {
+  at = λ e s.
+      let q = f e u s w in
+      truths b (good e u) (λ y. good_from e u (q.0 y)) (λ y. q.1 (good_true e u y));
+}
+good_answer j t (Err x) f = tt
+
+-- questions about written terms
 pub labelled_test : {E : Type 0} (j k : Numbered) (i : MsgId) (m : Message) → IsKept j k → slice_get k.store.messages i.place ≡ Some m → (r : Result Bool E) → IfOk r (λ b. (e : Env) (n : Message) → Stands k e → slice_get k.store.messages i.place ≡ Some n → (b ≡ true) ↔ IsLabel [] e n) → IfOk r (IsTest j (labelled m))
 labelled_test j k i m h a (Ok b) f = record {
   at = λ e s.

@@ -1,7 +1,7 @@
 -- Typing over shared terms is typing in each environment that the numbers stand for.
-use Rattle.std.proofs.Common.{◌≡◌, ℕ, zero, suc, ◌-◌, ◌<◌, ◌≤◌, Bool, true, false, List, [], ◌∷◌, ◌++◌, Option, Some, None, length, refl, sym, ap, subst, ◌∙◌, arith, ⊎_elim, ◌⊎◌, inl, inr}
+use Rattle.std.proofs.Common.{◌≡◌, ℕ, zero, suc, ◌-◌, ◌<◌, ◌≤◌, Bool, true, false, ◌==◌, List, [], ◌∷◌, ◌++◌, Option, Some, None, length, refl, sym, ap, subst, ◌∙◌, arith, ⊎_elim, ◌⊎◌, inl, inr}
 use Rattle.std.specs.Prelude.{slice_get, nat_lt, if◌then◌else◌, ⊤}
-use Rattle.std.proofs.lemmas.Bool.{lt-ltb, le-ltb, ne_eqb, cases_lt}
+use Rattle.std.proofs.lemmas.Bool.{lt-ltb, le-ltb, ne_eqb, eqb-true, cases_lt}
 use Rattle.spi_term.specs.Term.{Message, bound, name, unit, pair, in_left, in_right, enc, hash, Effect, Ty}
 use Rattle.spi_term.specs.Substitution.{message_map, put, ty_map, ty_put}
 use Rattle.spi_term.specs.Names.{MessageOver}
@@ -12,7 +12,11 @@ use Rattle.spi_term.proofs.Lists.{get_last, length_more}
 use Rattle.spi_rules.specs.Environment.{Env}
 use Rattle.spi_rules.specs.Messages.{cast_of}
 use Rattle.spi_rules.proofs.Good.{type_over}
-use Rattle.spi_message.specs.Filling.{last_but, value_of, or_bound, fill, filled, AllStay}
+use Rattle.spi_intern.specs.Meaning.{Means}
+use Rattle.spi_intern.specs.declared.messages.MsgId.{MsgId}
+use Rattle.spi_intern.specs.declared.types.TyId.{TyId}
+use Rattle.spi_intern.specs.declared.store.Store.{Store}
+use Rattle.spi_message.specs.Filling.{last_but, value_of, or_bound, fill, filled, FillsTy, AllStay}
 use Rattle.spi_message.specs.Tests.{typed}
 use Rattle.spi_message.proofs.Deciding.{typed_true}
 
@@ -122,6 +126,10 @@ fill_none d m = stays_mapped (λ i. or_bound i (value_of [] d i)) (λ i. by i (n
 
 pub filled_none : (t : Ty) → filled [] t ≡ t
 filled_none t = fixed_ty (fill []) fill_none 0 t
+
+pub fills_none : (s : Store) (vs : List MsgId) (depth : ℕ) (t : TyId) → true ≡ (length vs == 0) → FillsTy s s vs depth t t
+fills_none s [] depth t e = record { at = λ d u h m. subst (Means s t.place) (sym (fixed_ty (fill []) fill_none d u)) m }
+fills_none s (v ∷ vs) depth t e = let n : length (v ∷ vs) ≡ 0 = eqb-true (length (v ∷ vs)) 0 (sym e) in absurd (omega arith)
 
 pub none_stay : AllStay []
 none_stay = record { at = λ i v e. absurd cc }

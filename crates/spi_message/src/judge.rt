@@ -10,7 +10,7 @@ ghost use Rattle.spi_rules.specs.Messages.{HasType, IsLabel};
 ghost use Rattle.spi_rules.specs.Good.{GoodTy};
 ghost use Rattle.spi_intern.specs.Given.{IsGiven};
 ghost use Rattle.spi_intern.specs.Meaning.{Means, Keeps};
-ghost use Rattle.spi_intern.specs.Growing.{Adds, a_message, a_type};
+ghost use Rattle.spi_intern.specs.Growing.{Adds, a_message, a_type, over_types};
 ghost use Rattle.spi_message.specs.Giving.{HasParts, GivesOnly, Compared, Examined, HasGiven};
 ghost use Rattle.spi_message.specs.Answered.{TellsTest, CanAsk};
 ghost use Rattle.spi_message.specs.Added.{AnswerGives};
@@ -151,6 +151,50 @@ impl Judge {
         ensures kept { IsKept self.old self.new }
     {
         filled_type(alloc, &mut self.store, &[m], 0, t)
+    }
+
+    /// The number of the type of pairs of these types, as `Store::pair_over` of the judge's store gives it.
+    pub fn pair_over(&mut self, first: TyId, second: TyId) -> Result<TyId, NoMemory>
+        requires first { IsGiven self.old.store first.place }
+        requires second { IsGiven self.old.store second.place }
+        ensures at { IfOk result
+            (λ id. (t u : Term.Ty) → Means self.old.store first.place t → Means self.old.store second.place u
+            → Means self.new.store id.place (Term.pair_ty t u)) }
+        ensures adds { OnOk result
+            ((t u : Term.Ty) → Means self.old.store first.place t → Means self.old.store second.place u
+            → Adds self.old.store self.new.store (over_types (Term.pair_ty t u))) }
+        ensures kept { IsKept self.old self.new }
+    {
+        self.store.pair_over(first, second)
+    }
+
+    /// The number of the sum of these types, as `Store::sum_over` of the judge's store gives it.
+    pub fn sum_over(&mut self, left: TyId, right: TyId) -> Result<TyId, NoMemory>
+        requires left { IsGiven self.old.store left.place }
+        requires right { IsGiven self.old.store right.place }
+        ensures at { IfOk result
+            (λ id. (t u : Term.Ty) → Means self.old.store left.place t → Means self.old.store right.place u
+            → Means self.new.store id.place (Term.sum_ty t u)) }
+        ensures adds { OnOk result
+            ((t u : Term.Ty) → Means self.old.store left.place t → Means self.old.store right.place u
+            → Adds self.old.store self.new.store (over_types (Term.sum_ty t u))) }
+        ensures kept { IsKept self.old self.new }
+    {
+        self.store.sum_over(left, right)
+    }
+
+    /// The number of the type of keys for this payload, as `Store::key_over` of the judge's store gives it.
+    pub fn key_over(&mut self, payload: TyId) -> Result<TyId, NoMemory>
+        requires { IsGiven self.old.store payload.place }
+        ensures at { IfOk result
+            (λ id. (t : Term.Ty) → Means self.old.store payload.place t
+            → Means self.new.store id.place (Term.key t)) }
+        ensures adds { OnOk result
+            ((t : Term.Ty) → Means self.old.store payload.place t
+            → Adds self.old.store self.new.store (over_types (Term.key t))) }
+        ensures kept { IsKept self.old self.new }
+    {
+        self.store.key_over(payload)
     }
 
     // The answer that is kept, or else what the rules say, which is kept from then on.

@@ -1,39 +1,19 @@
 // Tests that are asked of a judge: an answer is so in each environment that the judge stands for.
 
-ghost use Rattle.std.specs.Prelude.{◌≡◌, ◌+◌, ◌^◌, ◌<◌, length, IfOk, IfSome, IfNone};
+ghost use Rattle.std.specs.Prelude.{◌+◌, ◌^◌, ◌<◌, length, IfOk, IfSome, IfNone};
 ghost use Rattle.spi_term.specs.Term as Term;
-ghost use Rattle.spi_term.specs.Term.{un};
 ghost use Rattle.spi_term.specs.Spelling.{ty_nodes};
 ghost use Rattle.spi_term.specs.View.{message, ty as type_of};
 ghost use Rattle.spi_message.specs.Asking.{IsEnvironment};
 ghost use Rattle.spi_message.specs.Judging.{IsKept};
 ghost use Rattle.spi_message.specs.Tested.{IsTest, IsNonceAt, IsNoNonce};
-ghost use Rattle.spi_message.specs.Tests.{typed, labelled, good};
+ghost use Rattle.spi_message.specs.Tests.{labelled, good};
 
 use crate::heads::is_nonce_type;
 use crate::{Judge, NoMemory};
 use spi_intern::TyId;
 use spi_term::{Msg, Ty};
 use std::alloc::Global;
-
-/// Whether the message has the type. An error is want of memory.
-#[tactic(auto, using(crate::proofs::Tested::kept_more))]
-pub fn is_typed(alloc: Global, judge: &mut Judge, m: &Msg, t: &Ty) -> Result<bool, NoMemory>
-    ensures answer { IfOk result (IsTest judge.old (λ e. typed (message m.now) e (type_of t.now))) }
-    ensures kept { IsKept judge.old judge.new }
-{
-    let id = judge.message(m)?;
-    let wanted = judge.ty(alloc, t)?;
-    judge.has_type(alloc, id, wanted)
-}
-
-/// Whether the message has type `Un`. An error is want of memory.
-pub fn is_untrusted(alloc: Global, judge: &mut Judge, m: &Msg) -> Result<bool, NoMemory>
-    ensures answer { IfOk result (IsTest judge.old (λ e. typed (message m.now) e un)) }
-    ensures kept { IsKept judge.old judge.new }
-{
-    is_typed(alloc, judge, m, &Ty::Un)
-}
 
 /// Whether the message is a label. An error is want of memory.
 #[tactic(auto, using(crate::proofs::Tested::kept_more))]

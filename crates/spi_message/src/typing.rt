@@ -1,11 +1,13 @@
 // Typing of messages and labels over shared terms. A type may stand under binders: the values say what stands for
 // them, so that no type is opened but where it is compared.
 
-ghost use Rattle.std.specs.Prelude.{◌≡◌, ◌<◌, IfOk, OnOk, IfSome, IfNone, length};
-ghost use Rattle.spi_term.specs.Term.{name, pair, enc};
+ghost use Rattle.std.specs.Prelude.{◌≡◌, ◌<◌, List, IfOk, OnOk, IfSome, IfNone, length};
+ghost use Rattle.spi_term.specs.Term.{Message, name, pair, enc};
 ghost use Rattle.spi_intern.specs.Messages.{message_at};
+ghost use Rattle.spi_intern.specs.Given.{IsGiven};
 ghost use Rattle.spi_intern.specs.Meaning.{Keeps};
-ghost use Rattle.spi_message.specs.Filling.{AreIdsBelow};
+ghost use Rattle.spi_intern.specs.declared.types.TyId.{TyId};
+ghost use Rattle.spi_message.specs.Filling.{AreIdsBelow, FillsTy};
 ghost use Rattle.spi_message.specs.Added.{TypingGives, LabelGives};
 ghost use Rattle.spi_message.specs.Asking.{IsEnvironment, IsAsked, IsTyped, IsLabelled, IsPayload, IsNoPayload};
 
@@ -32,6 +34,26 @@ fn key_payload(store: &Store, env: &[TyId], m: MsgId) -> Option<TyId>
     }
 }
 
+// The type that a message is asked for: no value stands for a binder where there is none.
+fn wanted_type(
+    alloc: Global,
+    store: &mut Store,
+    values: &[MsgId],
+    t: TyId,
+) -> Result<TyId, NoMemory>
+    requires ty { IsGiven store.old t.place }
+    requires values { AreIdsBelow values.now (length store.old.messages) }
+    ensures at { IfOk result (FillsTy store.old store.new values.now 0 t) }
+    ensures adds { OnOk result
+        ((env : List TyId) (n : Message) → TypingGives store.old store.new env n t values.now) }
+    ensures kept { Keeps store.old store.new }
+{
+    if values.is_empty() {
+        return Ok(t);
+    }
+    filled_type(alloc, store, values, 0, t)
+}
+
 fn name_has_type(
     alloc: Global,
     store: &mut Store,
@@ -47,7 +69,7 @@ fn name_has_type(
 {
     match env.get(x as usize) {
         Some(known) => {
-            let wanted = filled_type(alloc, store, values, 0, t)?;
+            let wanted = wanted_type(alloc, store, values, t)?;
             // The count is asked for what its answer says: types with two numbers aren't the same.
             let _ = store.distinct();
             Ok(*known == wanted)

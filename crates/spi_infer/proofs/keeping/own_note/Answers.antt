@@ -1,5 +1,6 @@
 use Rattle.spi_message.proofs.Tested.{env_kept, stands_kept}
 use Rattle.spi_count.proofs.Kept.{kept_as, grows_store, grows_more}
+use Rattle.spi_infer.proofs.Numbers.{numbers_keep}
 use Rattle.spi_infer.proofs.keeping.own_note.Goals as goal
 
 pub own_of-requires-clause-keys : goal.own_of-requires-clause-keys
@@ -15,3 +16,6 @@ returns-clause-note c = record {
 
 pub returns-clause-grows : goal.returns-clause-grows
 returns-clause-grows c = grows_more (grows_store c.in_ok-fine.ensures.kept.store c.requires.keys) c.in_ok-own.ensures.grows
+
+pub own_of-requires-clause-terms : goal.own_of-requires-clause-terms
+own_of-requires-clause-terms c = numbers_keep {j = c.args.judge.now} {k = c.is_form_ok.new.judge} _ c.args.terms c.in_ok-fine.ensures.kept.store c.requires.terms
