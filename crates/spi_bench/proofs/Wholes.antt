@@ -6,7 +6,7 @@ use Rattle.spi_term.specs.Substitution.{process_map, process_put}
 use Rattle.spi_term.specs.Term.{name, Atom, checks, Effect, Ty, Process}
 use Rattle.spi_effect.specs.Effect.{Within}
 use Rattle.spi_effect.proofs.Laws.{within_refl, within_trans, within_append, within_tally, sum_append, tally_append}
-use Rattle.spi_rules.specs.Environment.{Env, extended, untrusted}
+use Rattle.spi_rules.specs.Environment.{Env, extended, opened, untrusted}
 use Rattle.spi_rules.specs.Good.{GoodTy, good_none}
 use Rattle.spi_rules.specs.Derivations.{Derivable}
 use Rattle.spi_rules.specs.Processes.{IsGenerative, proc_sub}
@@ -99,10 +99,10 @@ whole_over k (t ∷ ts) ps a h = (a.0, over_bound k 0 (whole_process_of (suc k) 
 
 -- `new` of the next name
 abbrev OpensNext : Env → ℕ → Process → Type 0
-OpensNext env k q = process_put (name (length env)) (process_map (indexed_message k) 0 q) ≡ q
+OpensNext env k q = opened env (process_map (indexed_message k) 0 q) ≡ q
 
-opened : (env : Env) (k : ℕ) (q : Process) → k ≡ length env → ProcessOver (suc k) q → OpensNext env k q
-opened env k q e o = subst (λ n. process_put (name n) (process_map (indexed_message k) 0 q) ≡ q) e (opened_back (suc k) k q o)
+opens_next : (env : Env) (k : ℕ) (q : Process) → k ≡ length env → ProcessOver (suc k) q → OpensNext env k q
+opens_next env k q e o = subst (λ n. process_put (name n) (process_map (indexed_message k) 0 q) ≡ q) e (opened_back (suc k) k q o)
 
 new_pays : (env : Env) (k : ℕ) (t : Ty) (q : Process) (es rest : Effect) → k ≡ length env → OpensNext env k q → Pays [] (extended env t) q es → IsGenerative t → GoodTy [] env t → Within es (checks (name k) ∷ rest) → EffectAvoids k rest → Pays [] env (new_named k t q) rest
 new_pays env k t q es rest e o d i g w a =
@@ -142,7 +142,7 @@ pub whole_pays : (env : Env) (k : ℕ) (ts : List Ty) (ps : List Process) (s res
 whole_pays env k [] ps s rest e a h g c d w = pays_more (subst (λ v. Pays [] v (together ps) s) (append-nil env) d) w
 whole_pays env k (t ∷ ts) ps s rest e a h g c d w =
     let h' = parts_next k t ts ps h in
-    let o = opened env k (whole_process_of (suc k) ts ps) e (whole_over (suc k) ts ps a.1 h') in
+    let o = opens_next env k (whole_process_of (suc k) ts ps) e (whole_over (suc k) ts ps a.1 h') in
     let b = whole_pays (extended env t) (suc k) ts ps s (checks (name k) ∷ rest) (next_length env k t e) a.1 h' g.2 (clear_next k rest c) (subst (λ v. Pays [] v (together ps) s) (sym (append_assoc env (t ∷ []) ts)) d) (moved (checks (name k)) s (each_check (suc k) ts) rest w) in
     new_pays env k t (whole_process_of (suc k) ts ps) (checks (name k) ∷ rest) rest e o b g.0 g.1 (within_refl (checks (name k) ∷ rest)) (c k (le_refl k))
 
@@ -162,7 +162,7 @@ parts_pay env k [] ps fs e a h d = record {
 }
 parts_pay env k (t ∷ ts) ps fs e a h d =
     let h' = parts_next k t ts ps h in
-    let o = opened env k (whole_process_of (suc k) ts ps) e (whole_over (suc k) ts ps a.1 h') in
+    let o = opens_next env k (whole_process_of (suc k) ts ps) e (whole_over (suc k) ts ps a.1 h') in
     let n = of_new env k t (whole_process_of (suc k) ts ps) fs e o d in
     let b = parts_pay (extended env t) (suc k) ts ps n.es (next_length env k t e) a.1 h' n.pays in
     record {

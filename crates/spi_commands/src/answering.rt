@@ -46,7 +46,7 @@ pub fn answers(
     ensures err { OnErr result (result ≡ Err Stop.NoMemory) }
 {
     match text {
-        Text::Lexed { bytes, tokens } => on_tokens(alloc, command, &bytes, &tokens, players),
+        Text::Lexed { bytes, tokens } => on_tokens(alloc, command, &bytes, tokens, players),
         Text::Refused(line) => Ok(refused_with(line)),
     }
 }
@@ -56,12 +56,12 @@ fn on_tokens(
     alloc: Global,
     command: Command,
     bytes: &[u8],
-    tokens: &[Token],
+    tokens: Vec<Token>,
     players: &mut Vec<Box<dyn Player>>,
 ) -> Result<Answer, Stop>
     requires known { AreNumbersKnown (vec_len players.old) command }
     requires reads { (sessions : ℕ) → command ≢ Command.Load sessions }
-    requires tokens { HasTokens bytes.now tokens.now }
+    requires tokens { HasTokens bytes.now tokens.items }
     ensures answers { IsAnsweredBy command bytes.now
         (seen_of (λ b. times b) (λ b. way b) players.old.items)
         (seen_of (λ b. times b) (λ b. way b) players.new.items) result }
@@ -69,8 +69,8 @@ fn on_tokens(
 {
     faults_stand_at_nodes();
     match command {
-        Command::Narrate => narrated(alloc, bytes, tokens),
-        Command::Bench => benched(alloc, bytes, tokens),
+        Command::Narrate => narrated(alloc, bytes, &tokens),
+        Command::Bench => benched(alloc, bytes, &tokens),
         _ => match read_tokens(alloc, bytes, tokens) {
             Ok(file) => on_file(alloc, command, bytes, file, players),
             Err(cause) => refused_for(alloc, bytes, &cause),

@@ -41,25 +41,28 @@ pub fn read(alloc: Global, bytes: &[u8]) -> Result<File, Unread>
     ensures unread { IfErr result (λ u. IsUnread bytes.now u) }
 {
     match lex(alloc, bytes) {
-        Ok(tokens) => read_tokens(alloc, bytes, &tokens),
+        Ok(tokens) => read_tokens(alloc, bytes, tokens),
         Err(fault) => Err(unlexed(alloc, bytes, fault)),
     }
 }
 
-/// The file that the tokens of the bytes spell.
-pub fn read_tokens(alloc: Global, bytes: &[u8], tokens: &[Token]) -> Result<File, Unread>
+/// The file that the tokens of the bytes spell. The tokens go as soon as their tree is there.
+pub fn read_tokens(alloc: Global, bytes: &[u8], tokens: Vec<Token>) -> Result<File, Unread>
     requires within { length bytes.now ≤ 16_777_216 }
-    requires few { length tokens.now ≤ 16_777_216 }
-    requires lexed { Lexes bytes.now (Ok tokens.now) }
-    requires kinds { AreKinds (kinds_of tokens.now) }
+    requires few { length tokens.items ≤ 16_777_216 }
+    requires lexed { Lexes bytes.now (Ok tokens.items) }
+    requires kinds { AreKinds (kinds_of tokens.items) }
     ensures file { IfOk result (λ f. SpellsFile bytes.now (meant f)) }
     ensures placed { IfOk result (λ f. IsRead bytes.now f) }
     ensures unread { IfErr result (λ u. IsUnread bytes.now u) }
 {
-    match parse(alloc, tokens, bytes.len() as u32) {
-        Ok(tree) => read_tree(alloc, bytes, &tree),
-        Err(ParseFault::Syntax { token }) => Err(unparsed(alloc, 20, bytes, tokens, token)),
-        Err(ParseFault::TooDeep { token }) => Err(unparsed(alloc, 21, bytes, tokens, token)),
+    match parse(alloc, &tokens, bytes.len() as u32) {
+        Ok(tree) => {
+            drop(tokens);
+            read_tree(alloc, bytes, &tree)
+        }
+        Err(ParseFault::Syntax { token }) => Err(unparsed(alloc, 20, bytes, &tokens, token)),
+        Err(ParseFault::TooDeep { token }) => Err(unparsed(alloc, 21, bytes, &tokens, token)),
         Err(ParseFault::NoMemory) => Err(Unread::NoMemory),
     }
 }

@@ -4,8 +4,7 @@ ghost use Rattle.spi_tree.specs.Views.{proc_of, file_of};
 ghost use Rattle.spi_gen.specs.Sessions.{AreBeside, AreGrouped, IsSessions};
 
 use crate::NoMemory;
-use crate::parts::{declarations, handshake};
-use spi_text::Span;
+use crate::parts::{NOWHERE, declarations, handshake};
 use spi_tree::{SProc, Tree};
 use std::alloc::Global;
 
@@ -22,7 +21,7 @@ fn beside(alloc: Global, n: u32, in_part: bool) -> Result<SProc, NoMemory>
     let half = (n + 1) / 2;
     let first = Box::new(alloc, beside(alloc, half, true)?)?;
     let rest = Box::new(alloc, beside(alloc, n - half, true)?)?;
-    let span = Span { from: 0, to: 0 };
+    let span = NOWHERE;
     if in_part {
         Ok(SProc::Group { first, rest, span })
     } else {
@@ -44,6 +43,6 @@ pub fn sessions(alloc: Global, k: u32) -> Result<Tree, NoMemory>
         opponent: None,
         schedule: None,
         derivation: None,
-        span: Span { from: 0, to: 0 },
+        span: NOWHERE,
     })
 }

@@ -9,12 +9,15 @@ use spi_text::{Span, Text};
 use spi_tree::{Decl, Last, SAtom, SMsg, SProc, STy, SWord};
 use std::alloc::Global;
 
+/// The empty span at 0: what is made here stands nowhere in a text.
+pub const NOWHERE: Span = Span { from: 0, to: 0 };
+
 fn word(alloc: Global, spelling: &str) -> Result<SWord, NoMemory>
     ensures { IfOk result (λ w. w ≡ H.word spelling.now) }
 {
     Ok(SWord {
         word: Text::of(alloc, spelling)?,
-        span: Span { from: 0, to: 0 },
+        span: NOWHERE,
     })
 }
 
@@ -23,7 +26,7 @@ fn name(alloc: Global, spelling: &str) -> Result<SMsg, NoMemory>
 {
     Ok(SMsg::Name {
         name: word(alloc, spelling)?,
-        span: Span { from: 0, to: 0 },
+        span: NOWHERE,
     })
 }
 
@@ -36,7 +39,7 @@ fn tuple(alloc: Global, first: SMsg, second: SMsg, more: Vec<SMsg>) -> Result<SM
         first: Box::new(alloc, first)?,
         second: Box::new(alloc, second)?,
         more,
-        span: Span { from: 0, to: 0 },
+        span: NOWHERE,
     })
 }
 
@@ -59,9 +62,7 @@ fn label(alloc: Global) -> Result<SMsg, NoMemory>
 fn untrusted() -> STy
     ensures { ty_of result ≡ H.untrusted_type }
 {
-    STy::Un {
-        span: Span { from: 0, to: 0 },
-    }
+    STy::Un { span: NOWHERE }
 }
 
 fn proof(alloc: Global) -> Result<STy, NoMemory>
@@ -70,11 +71,11 @@ fn proof(alloc: Global) -> Result<STy, NoMemory>
     let mut effect = Vec::new(alloc);
     effect.push(SAtom::End {
         label: label(alloc)?,
-        span: Span { from: 0, to: 0 },
+        span: NOWHERE,
     })?;
     Ok(STy::Nonce {
         effect,
-        span: Span { from: 0, to: 0 },
+        span: NOWHERE,
     })
 }
 
@@ -87,7 +88,7 @@ fn pair_type(alloc: Global, name: SWord, first: STy, last: Last) -> Result<STy, 
         first: Box::new(alloc, first)?,
         more: Vec::new(alloc),
         last: Box::new(alloc, last)?,
-        span: Span { from: 0, to: 0 },
+        span: NOWHERE,
     })
 }
 
@@ -103,7 +104,7 @@ fn answer_name(alloc: Global) -> Result<STy, NoMemory>
 {
     Ok(STy::Abbr {
         name: word(alloc, "Msg")?,
-        span: Span { from: 0, to: 0 },
+        span: NOWHERE,
     })
 }
 
@@ -116,7 +117,7 @@ fn new_name(alloc: Global, spelling: &str, ty: STy, then: SProc) -> Result<SProc
         name: word(alloc, spelling)?,
         ty,
         then: Box::new(alloc, then)?,
-        span: Span { from: 0, to: 0 },
+        span: NOWHERE,
     })
 }
 
@@ -130,7 +131,7 @@ fn input(alloc: Global, spelling: &str, then: SProc) -> Result<SProc, NoMemory>
         name: word(alloc, spelling)?,
         ty: untrusted(),
         then: Box::new(alloc, then)?,
-        span: Span { from: 0, to: 0 },
+        span: NOWHERE,
     })
 }
 
@@ -148,9 +149,9 @@ fn reply(alloc: Global) -> Result<SProc, NoMemory>
         datum: SMsg::Enc {
             body,
             key,
-            span: Span { from: 0, to: 0 },
+            span: NOWHERE,
         },
-        span: Span { from: 0, to: 0 },
+        span: NOWHERE,
     })
 }
 
@@ -162,12 +163,12 @@ fn answering(alloc: Global) -> Result<SProc, NoMemory>
         name: word(alloc, "p")?,
         ty: proof(alloc)?,
         then: Box::new(alloc, reply(alloc)?)?,
-        span: Span { from: 0, to: 0 },
+        span: NOWHERE,
     };
     let begin = SProc::Begin {
         label: label(alloc)?,
         then: Box::new(alloc, cast)?,
-        span: Span { from: 0, to: 0 },
+        span: NOWHERE,
     };
     let new = new_name(alloc, "m", untrusted(), begin)?;
     input(alloc, "q", new)
@@ -176,19 +177,17 @@ fn answering(alloc: Global) -> Result<SProc, NoMemory>
 fn checking(alloc: Global) -> Result<SProc, NoMemory>
     ensures { IfOk result (λ p. proc_of p ≡ H.checking) }
 {
-    let stop = SProc::Stop {
-        span: Span { from: 0, to: 0 },
-    };
+    let stop = SProc::Stop { span: NOWHERE };
     let end = SProc::End {
         label: label(alloc)?,
         then: Box::new(alloc, stop)?,
-        span: Span { from: 0, to: 0 },
+        span: NOWHERE,
     };
     let check = SProc::Check {
         whole: name(alloc, "n")?,
         nonce: name(alloc, "p")?,
         then: Box::new(alloc, end)?,
-        span: Span { from: 0, to: 0 },
+        span: NOWHERE,
     };
     Ok(SProc::Split {
         whole: name(alloc, "x")?,
@@ -197,7 +196,7 @@ fn checking(alloc: Global) -> Result<SProc, NoMemory>
         right: word(alloc, "p")?,
         right_ty: proof(alloc)?,
         then: Box::new(alloc, check)?,
-        span: Span { from: 0, to: 0 },
+        span: NOWHERE,
     })
 }
 
@@ -210,14 +209,14 @@ fn asking(alloc: Global) -> Result<SProc, NoMemory>
         ty: answer_name(alloc)?,
         key: name(alloc, "k")?,
         then: Box::new(alloc, checking(alloc)?)?,
-        span: Span { from: 0, to: 0 },
+        span: NOWHERE,
     };
     let inp = input(alloc, "c", decrypt)?;
     let out = SProc::OutThen {
         channel: name(alloc, "net")?,
         datum: name(alloc, "n")?,
         then: Box::new(alloc, inp)?,
-        span: Span { from: 0, to: 0 },
+        span: NOWHERE,
     };
     new_name(alloc, "n", untrusted(), out)
 }
@@ -229,11 +228,11 @@ pub fn handshake(alloc: Global) -> Result<SProc, NoMemory>
     let group = SProc::Group {
         first: Box::new(alloc, answering(alloc)?)?,
         rest: Box::new(alloc, asking(alloc)?)?,
-        span: Span { from: 0, to: 0 },
+        span: NOWHERE,
     };
     let key = STy::Key {
         part: Box::new(alloc, answer_name(alloc)?)?,
-        span: Span { from: 0, to: 0 },
+        span: NOWHERE,
     };
     new_name(alloc, "k", key, group)
 }
@@ -249,12 +248,12 @@ pub fn declarations(alloc: Global) -> Result<Vec<Decl>, NoMemory>
     decls.push(Decl::Free {
         first: word(alloc, "a")?,
         more,
-        span: Span { from: 0, to: 0 },
+        span: NOWHERE,
     })?;
     decls.push(Decl::Abbr {
         name: word(alloc, "Msg")?,
         ty: answer(alloc)?,
-        span: Span { from: 0, to: 0 },
+        span: NOWHERE,
     })?;
     Ok(decls)
 }

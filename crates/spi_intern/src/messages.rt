@@ -10,6 +10,7 @@ use crate::NoMemory;
 use indexmap::IndexSet;
 use spi_term::Msg;
 use std::alloc::Global;
+use std::hash::{Hash, Hasher};
 use std::marker::Model;
 
 /// The number of a message of a store.
@@ -35,7 +36,7 @@ impl MsgId {
 }
 
 /// The outermost constructor of a message, with the numbers of its parts.
-#[derive(Clone, Copy, PartialEq, Eq, Hash)]
+#[derive(Clone, Copy, PartialEq, Eq)]
 pub enum MsgPart {
     Bound(u32),
     Name(u32),
@@ -45,6 +46,28 @@ pub enum MsgPart {
     Inr(MsgId),
     Enc(MsgId, MsgId),
     Hash(MsgId),
+}
+
+impl Hash for MsgPart {
+    ghost use Rattle.std.specs.Cmp.Rules.{hashing};
+    ghost use Rattle.std.proofs.Common.{rules};
+    ghost use Rattle.spi_intern.specs.Hashed.{part_fed};
+
+    ghost hash_input = { part_fed };
+
+    ghost respects_eq = { Prim.search (hashing, rules) };
+
+    fn hash<H: Hasher>(&self, state: &mut H) {
+        match self {
+            MsgPart::Bound(number) | MsgPart::Name(number) => number.hash(state),
+            MsgPart::Unit => {}
+            MsgPart::Pair(first, second) | MsgPart::Enc(first, second) => {
+                first.hash(state);
+                second.hash(state);
+            }
+            MsgPart::Inl(part) | MsgPart::Inr(part) | MsgPart::Hash(part) => part.hash(state),
+        }
+    }
 }
 
 /// Messages, each with its number. Contracts see them as a list, in the order of the numbers.

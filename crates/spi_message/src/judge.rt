@@ -9,7 +9,7 @@ ghost use Rattle.spi_rules.specs.Environment.{Env, untrusted};
 ghost use Rattle.spi_rules.specs.Messages.{HasType, IsLabel};
 ghost use Rattle.spi_rules.specs.Good.{GoodTy};
 ghost use Rattle.spi_intern.specs.Given.{IsGiven};
-ghost use Rattle.spi_intern.specs.Meaning.{Means, Keeps};
+ghost use Rattle.spi_intern.specs.Meaning.{Means};
 ghost use Rattle.spi_intern.specs.Growing.{Adds, a_message, a_type, over_types};
 ghost use Rattle.spi_message.specs.Giving.{HasParts, GivesOnly, Compared, Examined, HasGiven};
 ghost use Rattle.spi_message.specs.Answered.{TellsTest, CanAsk};
@@ -26,7 +26,7 @@ use std::marker::Model;
 
 /// An environment over a store of its own: the type of each name is a number of that store. The first names, given
 /// at the start, are of type `Un` and stay. What was answered in an environment is kept for as long as its names are
-/// in scope.
+/// in scope, but for answers about a name, which are looked up.
 pub struct Judge {
     store: Store,
     types: Vec<TyId>,
@@ -197,7 +197,7 @@ impl Judge {
         self.store.key_over(payload)
     }
 
-    // The answer that is kept, or else what the rules say, which is kept from then on.
+    // The answer that is kept, or else what the rules say, which is kept from then on unless it is about a name.
     fn answer_in_scope(&mut self, alloc: Global, asked: Asked) -> Result<bool, NoMemory>
         requires { CanAsk self.old.store (length self.old.types) asked }
         ensures answer { IfOk result (TellsTest self.old.store self.old.types asked) }

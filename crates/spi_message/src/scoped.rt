@@ -5,7 +5,7 @@ ghost use Rattle.std.specs.Prelude.{◌≡◌, ◌+◌, ◌^◌, ◌<◌, ltb, I
 ghost use Rattle.spi_term.specs.Term.{name, pair, enc};
 ghost use Rattle.spi_term.specs.Spelling.{ty_nodes};
 ghost use Rattle.spi_term.specs.View.{message, atom, effect, ty};
-ghost use Rattle.spi_message.specs.Tests.{scope_of_types, is_unit, key_in, type_of_key, typed, labelled, good_atom, good_effect, good};
+ghost use Rattle.spi_message.specs.Tests.{scope_of_types, type_of_key, typed, labelled, good_atom, good_effect, good};
 
 use crate::NoMemory;
 use crate::slices::is_un_type;

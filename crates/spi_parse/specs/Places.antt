@@ -73,12 +73,12 @@ inr_form v d n = parts_by (delta (msg v d n) (K.Reserved word.Inr))
 abbrev pub hash_form : (v : Bool) (d : Bool) (n : ℕ) → List Span → State → Out (Tree (msg v d n))
 hash_form v d n =
     parts (msg v d n) (the_mark mark.ParenOpen ∷ msg v d (n + 1) ∷ the_mark mark.ParenClose ∷ [])
-    (λ ss to xs. t.hash (over ss to) xs.1.0)
+    (λ ss to (opening, (m, rest)). t.hash (over ss to) m)
 
 abbrev pub sum_form : (v : Bool) (n : ℕ) → List Span → State → Out (Tree (ty v n))
 sum_form v n =
     parts (ty v n) (ty v (n + 1) ∷ the_mark mark.Plus ∷ ty v (n + 1) ∷ the_mark mark.ParenClose ∷ [])
-    (λ ss to xs. t.sum (over ss to) xs.0 xs.1.1.0)
+    (λ ss to (a, (plus, (b, rest))). t.sum (over ss to) a b)
 
 abbrev pub key_form : (v : Bool) (n : ℕ) → List Span → State → Out (Tree (ty v n))
 key_form v n = parts_by (delta (ty v n) (K.Reserved word.Key))
@@ -132,7 +132,8 @@ abbrev pub sum_word_form : (v : Bool) (n : ℕ) → List ℕ → List Span → S
 sum_word_form v n w = parts_by (delta_ty_word v n w (K.Mark mark.Plus))
 
 abbrev pub effect_form : (v : Bool) (d : Bool) (n : ℕ) → List Span → State → Out (List t.Atom)
-effect_form v d n = parts (effect v d n) (atom v d n ∷ atoms v d n ∷ []) (λ ss to xs. xs.0 ∷ xs.1.0.0)
+effect_form v d n =
+    parts (effect v d n) (atom v d n ∷ atoms v d n ∷ []) (λ ss to (f, ((fs, end), rest)). f ∷ fs)
 
 abbrev pub nonce_form : (v : Bool) (n : ℕ) → List Span → State → Out t.Ty
 nonce_form v n = parts_by (delta (ty v n) (K.Reserved word.Nonce))

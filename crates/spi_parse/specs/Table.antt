@@ -274,22 +274,22 @@ abbrev pub delta_paren : (v d : Bool) (n : ℕ) → Kind → TableMove (msg v d 
 delta_paren v d n (K.Mark mark.ParenClose) = eat [] (λ ss to xs. t.unit (over ss to))
 delta_paren v d n _ =
     stay (msg v d (n + 1) ∷ the_mark mark.Comma ∷ msg v d (n + 1) ∷ msgs v d (n + 1) ∷ []) tt
-    (λ ss to xs. t.tuple (over ss to) xs.0 xs.1.1.0 (t.msgs_of_list xs.1.1.1.0.0))
+    (λ ss to (m, (comma, (m', ((ms, end), rest)))). t.tuple (over ss to) m m' (t.msgs_of_list ms))
 
 -- behind the bracket of an effect
 abbrev pub delta_bracket : (v d : Bool) (n : ℕ) → Kind → TableMove (effect v d n) true
 delta_bracket v d n (K.Mark mark.BracketClose) = eat [] (λ ss to xs. [])
-delta_bracket v d n _ = stay (atom v d n ∷ atoms v d n ∷ []) tt (λ ss to xs. xs.0 ∷ xs.1.0.0)
+delta_bracket v d n _ = stay (atom v d n ∷ atoms v d n ∷ []) tt (λ ss to (f, ((fs, end), rest)). f ∷ fs)
 
 -- behind the left parenthesis of a type and a word
 abbrev pub delta_ty_word : (v : Bool) (n : ℕ) → List ℕ → Kind → TableMove (ty v n) true
 delta_ty_word v n w (K.Mark mark.Colon) =
     eat (ty v (n + 1) ∷ the_mark mark.Comma ∷ fields v (n + 1) ∷ [])
-    (λ ss to xs. t.tuple_ty (over ss to) (word_at w (second ss)) xs.0 (t.fields_of_list xs.1.1.0.0)
-    xs.1.1.0.1)
+    (λ ss to (a, (comma, ((more, l), rest))). t.tuple_ty (over ss to) (word_at w (second ss)) a
+    (t.fields_of_list more) l)
 delta_ty_word v n w (K.Mark mark.Plus) =
     eat (ty v (n + 1) ∷ the_mark mark.ParenClose ∷ [])
-    (λ ss to xs. t.sum (over ss to) (t.abbr (second ss) (word_at w (second ss))) xs.0)
+    (λ ss to (a, rest). t.sum (over ss to) (t.abbr (second ss) (word_at w (second ss))) a)
 delta_ty_word v n w _ = fail
 
 -- behind the left parenthesis of a type
@@ -298,14 +298,14 @@ delta_ty_paren v n (K.Mark mark.ParenClose) = eat [] (λ ss to xs. t.unit_ty (ov
 delta_ty_paren v n (K.Word w) = may_look (nat_lt message_limit (n + 1)) (delta_ty_word v n w)
 delta_ty_paren v n _ =
     stay (ty v (n + 1) ∷ the_mark mark.Plus ∷ ty v (n + 1) ∷ the_mark mark.ParenClose ∷ []) tt
-    (λ ss to xs. t.sum (over ss to) xs.0 xs.1.1.0)
+    (λ ss to (a, (plus, (b, rest))). t.sum (over ss to) a b)
 
 -- behind a word among the parts of a tuple
 abbrev pub delta_item_word : (v : Bool) (n : ℕ) → List ℕ → Kind → TableMove (fields_item v n) true
 delta_item_word v n w (K.Mark mark.Colon) =
     eat (ty v n ∷ fields_rest ∷ [])
-    (λ ss to xs. if xs.1.0 then last (t.named (word_at w (first ss)) xs.0) else one
-    (record { name = word_at w (first ss); ty = xs.0 }))
+    (λ ss to (a, (ends, rest)). if ends then last (t.named (word_at w (first ss)) a) else one
+    (record { name = word_at w (first ss); ty = a }))
 delta_item_word v n w (K.Mark mark.ParenClose) =
     eat [] (λ ss to xs. last (t.bare (t.abbr (first ss) (word_at w (first ss)))))
 delta_item_word v n w _ = fail
@@ -316,7 +316,7 @@ with_field w a (Some r) = (record { name = w; ty = a } ∷ r.0, r.1)
 
 abbrev pub delta_fields_word : (v : Bool) (n : ℕ) → List ℕ → Kind → TableMove (fields v n) true
 delta_fields_word v n w (K.Mark mark.Colon) =
-    eat (ty v n ∷ fields_more v n ∷ []) (λ ss to xs. with_field (word_at w (first ss)) xs.0 xs.1.0)
+    eat (ty v n ∷ fields_more v n ∷ []) (λ ss to (a, (more, rest)). with_field (word_at w (first ss)) a more)
 delta_fields_word v n w (K.Mark mark.ParenClose) =
     eat [] (λ ss to xs. ([], t.bare (t.abbr (first ss) (word_at w (first ss)))))
 delta_fields_word v n w _ = fail
@@ -333,46 +333,46 @@ out_of s m n (Some p) = t.out_then s m n p
 abbrev pub form_move : (v : Bool) (n : ℕ) → Form → TableMove (seq v n) false
 form_move v n (forms.Talk talks.Out) =
     eat (msg v false 1 ∷ msg v false 1 ∷ out_tail v n ∷ [])
-    (λ ss to xs. out_of (over ss to) xs.0 xs.1.0 xs.1.1.0)
+    (λ ss to (m, (m', (q, rest))). out_of (over ss to) m m' q)
 form_move v n (forms.Talk talks.Inp) =
     eat (msg v false 1 ∷ binder v ∷ seq v (n + 1) ∷ [])
-    (λ ss to xs. t.inp (over ss to) xs.0 xs.1.0.0 xs.1.0.1 xs.1.1.0)
+    (λ ss to (m, ((x, a), (p, rest))). t.inp (over ss to) m x a p)
 form_move v n (forms.Talk talks.Repeat) =
     eat (the_reserved word.Inp ∷ msg v false 1 ∷ binder v ∷ seq v (n + 1) ∷ [])
-    (λ ss to xs. t.repeat (over ss to) xs.1.0 xs.1.1.0.0 xs.1.1.0.1 xs.1.1.1.0)
+    (λ ss to (keyword, (m, ((x, a), (p, rest)))). t.repeat (over ss to) m x a p)
 form_move v n (forms.Open opens.Split) =
     eat (msg v false 1 ∷ split_head v ∷ seq v (n + 1) ∷ [])
-    (λ ss to xs. t.split (over ss to) xs.0 xs.1.0.0 xs.1.0.1 xs.1.0.2 xs.1.0.3 xs.1.1.0)
+    (λ ss to (m, ((x, a, y, b), (p, rest))). t.split (over ss to) m x a y b p)
 form_move v n (forms.Open opens.Match) =
     eat (msg v false 1 ∷ match_head v ∷ seq v (n + 1) ∷ [])
-    (λ ss to xs. t.match (over ss to) xs.0 xs.1.0.0 xs.1.0.1 xs.1.0.2 xs.1.0.3 xs.1.0.4 xs.1.1.0)
+    (λ ss to (m, ((x, a, m', y, b), (p, rest))). t.match (over ss to) m x a m' y b p)
 form_move v n (forms.Open opens.Case) =
     eat (msg v false 1 ∷ case_head v word.Inl ∷ seq v (n + 1) ∷ case_head v word.Inr ∷ seq v (n + 1) ∷ [])
-    (λ ss to xs. t.case (over ss to) xs.0 xs.1.0.0 xs.1.0.1 xs.1.1.0 xs.1.1.1.0.0 xs.1.1.1.0.1 xs.1.1.1.1.0)
+    (λ ss to (m, ((x, a), (p, ((y, b), (q, rest))))). t.case (over ss to) m x a p y b q)
 form_move v n (forms.Open opens.Decrypt) =
     eat (msg v false 1 ∷ decrypt_head v ∷ seq v (n + 1) ∷ [])
-    (λ ss to xs. t.decrypt (over ss to) xs.0 xs.1.0.0 xs.1.0.1 xs.1.0.2 xs.1.1.0)
+    (λ ss to (m, ((x, a, k), (p, rest))). t.decrypt (over ss to) m x a k p)
 form_move v n (forms.Event events.Check) =
     eat (msg v false 1 ∷ check_head v ∷ seq v (n + 1) ∷ [])
-    (λ ss to xs. t.check (over ss to) xs.0 xs.1.0 xs.1.1.0)
+    (λ ss to (m, (m', (p, rest))). t.check (over ss to) m m' p)
 form_move v n (forms.Event events.Begin) =
     eat (msg v false 1 ∷ the_mark mark.Semicolon ∷ seq v (n + 1) ∷ [])
-    (λ ss to xs. t.begin (over ss to) xs.0 xs.1.1.0)
+    (λ ss to (m, (semicolon, (p, rest))). t.begin (over ss to) m p)
 form_move v n (forms.Event events.End) =
     eat (msg v false 1 ∷ the_mark mark.Semicolon ∷ seq v (n + 1) ∷ [])
-    (λ ss to xs. t.end (over ss to) xs.0 xs.1.1.0)
+    (λ ss to (m, (semicolon, (p, rest))). t.end (over ss to) m p)
 form_move v n (forms.Event events.EndMany) =
     eat (msg v false 1 ∷ the_mark mark.Semicolon ∷ seq v (n + 1) ∷ [])
-    (λ ss to xs. t.end_many (over ss to) xs.0 xs.1.1.0)
+    (λ ss to (m, (semicolon, (p, rest))). t.end_many (over ss to) m p)
 form_move v n (forms.Plain plains.Cast) =
     eat (msg v false 1 ∷ cast_head v ∷ seq v (n + 1) ∷ [])
-    (λ ss to xs. t.cast (over ss to) xs.0 xs.1.0.0 xs.1.0.1 xs.1.1.0)
+    (λ ss to (m, ((x, a), (p, rest))). t.cast (over ss to) m x a p)
 form_move v n (forms.Plain plains.New) =
-    eat (binder v ∷ seq v (n + 1) ∷ []) (λ ss to xs. t.new (over ss to) xs.0.0 xs.0.1 xs.1.0)
+    eat (binder v ∷ seq v (n + 1) ∷ []) (λ ss to ((x, a), (p, rest)). t.new (over ss to) x a p)
 form_move v n (forms.Plain plains.Stop) = eat [] (λ ss to xs. t.stop (over ss to))
 form_move v n (forms.Plain plains.Group) =
     eat (seq v (n + 1) ∷ the_mark mark.Bar ∷ sproc v (n + 1) ∷ the_mark mark.ParenClose ∷ [])
-    (λ ss to xs. t.group (over ss to) xs.0 xs.1.1.0)
+    (λ ss to (p, (bar, (q, rest))). t.group (over ss to) p q)
 form_move v n forms.NoForm = fail
 
 abbrev pub free_from : List Span → SWord × List SWord × ℕ → t.Declared
@@ -400,18 +400,20 @@ rule_move v n w (Some zero) false =
     eat [] (λ ss to xs. t.rule (over ss to) (word_at w (first ss)) None t.no_derivs)
 rule_move v n w (Some (suc zero)) false =
     eat (deriv v (n + 1) ∷ [])
-    (λ ss to xs. t.rule (over ss to) (word_at w (first ss)) None (t.derivs_of_list (xs.0 ∷ [])))
+    (λ ss to (d, rest). t.rule (over ss to) (word_at w (first ss)) None (t.derivs_of_list (d ∷ [])))
 rule_move v n w (Some (suc (suc zero))) false =
     eat (deriv v (n + 1) ∷ deriv v (n + 1) ∷ [])
-    (λ ss to xs. t.rule (over ss to) (word_at w (first ss)) None (t.derivs_of_list (xs.0 ∷ xs.1.0 ∷ [])))
+    (λ ss to (d, (d', rest)). t.rule (over ss to) (word_at w (first ss)) None
+    (t.derivs_of_list (d ∷ d' ∷ [])))
 rule_move v n w (Some (suc (suc (suc zero)))) false =
     eat (deriv v (n + 1) ∷ deriv v (n + 1) ∷ deriv v (n + 1) ∷ [])
-    (λ ss to xs. t.rule (over ss to) (word_at w (first ss)) None
-    (t.derivs_of_list (xs.0 ∷ xs.1.0 ∷ xs.1.1.0 ∷ [])))
+    (λ ss to (d, (d', (d'', rest))). t.rule (over ss to) (word_at w (first ss)) None
+    (t.derivs_of_list (d ∷ d' ∷ d'' ∷ [])))
 rule_move v n w (Some (suc (suc (suc (suc k))))) false = fail
 rule_move v n w (Some (suc zero)) true =
     eat (effect v true 0 ∷ deriv v (n + 1) ∷ [])
-    (λ ss to xs. t.rule (over ss to) (word_at w (first ss)) (Some xs.0) (t.derivs_of_list (xs.1.0 ∷ [])))
+    (λ ss to (es, (d, rest)). t.rule (over ss to) (word_at w (first ss)) (Some es)
+    (t.derivs_of_list (d ∷ [])))
 rule_move v n w (Some zero) true = fail
 rule_move v n w (Some (suc (suc k))) true = fail
 
@@ -442,120 +444,130 @@ delta (msg v d n) (K.Word w) =
 delta (msg v d n) (K.Mark mark.ParenOpen) = look (delta_paren v d n)
 delta (msg v d n) (K.Mark mark.BraceOpen) =
     eat (msg v d (n + 1) ∷ the_mark mark.BraceClose ∷ msg v d (n + 1) ∷ [])
-    (λ ss to xs. t.enc (over ss to) xs.0 xs.1.1.0)
+    (λ ss to (m, (close, (m', rest))). t.enc (over ss to) m m')
 delta (msg v d n) (K.Mark mark.NumberSign) =
-    if d then eat (the_number ∷ []) (λ ss to xs. t.num (over ss to) xs.0) else fail
-delta (msg v d n) (K.Reserved word.Inl) = eat (msg v d (n + 1) ∷ []) (λ ss to xs. t.inl (over ss to) xs.0)
-delta (msg v d n) (K.Reserved word.Inr) = eat (msg v d (n + 1) ∷ []) (λ ss to xs. t.inr (over ss to) xs.0)
+    if d then eat (the_number ∷ []) (λ ss to (i, rest). t.num (over ss to) i) else fail
+delta (msg v d n) (K.Reserved word.Inl) =
+    eat (msg v d (n + 1) ∷ []) (λ ss to (m, rest). t.inl (over ss to) m)
+delta (msg v d n) (K.Reserved word.Inr) =
+    eat (msg v d (n + 1) ∷ []) (λ ss to (m, rest). t.inr (over ss to) m)
 delta (msg v d n) (K.Reserved word.Hash) =
     if v then eat (the_mark mark.ParenOpen ∷ msg v d (n + 1) ∷ the_mark mark.ParenClose ∷ [])
-    (λ ss to xs. t.hash (over ss to) xs.1.0) else fail
-delta (msgs_item v d n) (K.Mark mark.Comma) = eat (msg v d n ∷ []) (λ ss to xs. one xs.0)
+    (λ ss to (opening, (m, rest)). t.hash (over ss to) m) else fail
+delta (msgs_item v d n) (K.Mark mark.Comma) = eat (msg v d n ∷ []) (λ ss to (m, rest). one m)
 delta (msgs_item v d n) (K.Mark mark.ParenClose) = eat [] (λ ss to xs. last tt)
 delta (msgs v d n) (K.Mark mark.Comma) =
-    eat (msg v d n ∷ msgs v d n ∷ []) (λ ss to xs. (xs.0 ∷ xs.1.0.0, xs.1.0.1))
+    eat (msg v d n ∷ msgs v d n ∷ []) (λ ss to (m, ((ms, end), rest)). (m ∷ ms, end))
 delta (msgs v d n) (K.Mark mark.ParenClose) = eat [] (λ ss to xs. ([], tt))
-delta (atom v d n) (K.Reserved word.End) = eat (msg v d (n + 1) ∷ []) (λ ss to xs. t.ends (over ss to) xs.0)
+delta (atom v d n) (K.Reserved word.End) =
+    eat (msg v d (n + 1) ∷ []) (λ ss to (m, rest). t.ends (over ss to) m)
 delta (atom v d n) (K.Reserved word.Check) =
-    eat (msg v d (n + 1) ∷ []) (λ ss to xs. t.checks (over ss to) xs.0)
+    eat (msg v d (n + 1) ∷ []) (λ ss to (m, rest). t.checks (over ss to) m)
 delta (atom v d n) (K.Reserved word.Many) =
-    if v then eat (msg v d (n + 1) ∷ []) (λ ss to xs. t.many (over ss to) xs.0) else fail
-delta (atoms_item v d n) (K.Mark mark.Comma) = eat (atom v d n ∷ []) (λ ss to xs. one xs.0)
+    if v then eat (msg v d (n + 1) ∷ []) (λ ss to (m, rest). t.many (over ss to) m) else fail
+delta (atoms_item v d n) (K.Mark mark.Comma) = eat (atom v d n ∷ []) (λ ss to (f, rest). one f)
 delta (atoms_item v d n) (K.Mark mark.BracketClose) = eat [] (λ ss to xs. last tt)
 delta (atoms v d n) (K.Mark mark.Comma) =
-    eat (atom v d n ∷ atoms v d n ∷ []) (λ ss to xs. (xs.0 ∷ xs.1.0.0, xs.1.0.1))
+    eat (atom v d n ∷ atoms v d n ∷ []) (λ ss to (f, ((fs, end), rest)). (f ∷ fs, end))
 delta (atoms v d n) (K.Mark mark.BracketClose) = eat [] (λ ss to xs. ([], tt))
 delta (effect v d n) (K.Mark mark.BracketOpen) = look (delta_bracket v d n)
 delta (ty v n) (K.Word w) = eat [] (λ ss to xs. t.abbr (over ss to) (word_at w (first ss)))
 delta (ty v n) (K.Reserved word.Un) = eat [] (λ ss to xs. t.un (over ss to))
 delta (ty v n) (K.Reserved word.Key) =
     eat (the_mark mark.ParenOpen ∷ ty v (n + 1) ∷ the_mark mark.ParenClose ∷ [])
-    (λ ss to xs. t.key (over ss to) xs.1.0)
+    (λ ss to (opening, (a, rest)). t.key (over ss to) a)
 delta (ty v n) (K.Reserved word.Nonce) =
-    eat (effect v false (n + 1) ∷ []) (λ ss to xs. t.nonce (over ss to) xs.0)
+    eat (effect v false (n + 1) ∷ []) (λ ss to (es, rest). t.nonce (over ss to) es)
 delta (ty v n) (K.Mark mark.ParenOpen) = look (delta_ty_paren v n)
 delta (fields_item v n) (K.Word w) = may_look (nat_lt message_limit n) (delta_item_word v n w)
-delta (fields_item v n) _ = stay (ty v n ∷ the_mark mark.ParenClose ∷ []) tt (λ ss to xs. last (t.bare xs.0))
+delta (fields_item v n) _ =
+    stay (ty v n ∷ the_mark mark.ParenClose ∷ []) tt (λ ss to (a, rest). last (t.bare a))
 -- a comma, or the parenthesis
 delta fields_rest (K.Mark mark.Comma) = eat [] (λ ss to xs. false)
 delta fields_rest (K.Mark mark.ParenClose) = eat [] (λ ss to xs. true)
 delta (fields v n) (K.Word w) = may_look (nat_lt message_limit n) (delta_fields_word v n w)
-delta (fields v n) _ = stay (ty v n ∷ the_mark mark.ParenClose ∷ []) tt (λ ss to xs. ([], t.bare xs.0))
-delta (fields_more v n) (K.Mark mark.Comma) = eat (fields v n ∷ []) (λ ss to xs. Some xs.0)
+delta (fields v n) _ = stay (ty v n ∷ the_mark mark.ParenClose ∷ []) tt (λ ss to (a, rest). ([], t.bare a))
+delta (fields_more v n) (K.Mark mark.Comma) = eat (fields v n ∷ []) (λ ss to (fs, rest). Some fs)
 delta (fields_more v n) (K.Mark mark.ParenClose) = eat [] (λ ss to xs. None)
-delta (named v) _ = stay (the_word ∷ the_mark mark.Colon ∷ ty v 1 ∷ []) tt (λ ss to xs. (xs.0, xs.1.1.0))
+delta (named v) _ =
+    stay (the_word ∷ the_mark mark.Colon ∷ ty v 1 ∷ []) tt (λ ss to (x, (colon, (a, rest))). (x, a))
 delta (binder v) (K.Mark mark.ParenOpen) =
-    eat (named v ∷ the_mark mark.ParenClose ∷ the_mark mark.Semicolon ∷ []) (λ ss to xs. xs.0)
+    eat (named v ∷ the_mark mark.ParenClose ∷ the_mark mark.Semicolon ∷ []) (λ ss to (b, rest). b)
 delta (split_head v) (K.Reserved word.Is) =
     eat (the_mark mark.ParenOpen ∷ named v ∷ the_mark mark.Comma ∷ named v ∷ the_mark mark.ParenClose
-    ∷ the_mark mark.Semicolon ∷ []) (λ ss to xs. (xs.1.0.0, xs.1.0.1, xs.1.1.1.0.0, xs.1.1.1.0.1))
+    ∷ the_mark mark.Semicolon ∷ []) (λ ss to (opening, ((x, a), (comma, ((y, b), rest)))). (x, a, y, b))
 delta (match_head v) (K.Reserved word.Is) =
     eat (the_mark mark.ParenOpen ∷ named v ∷ the_mark mark.Equals ∷ msg v false 1 ∷ the_mark mark.Comma
     ∷ named v ∷ the_mark mark.ParenClose ∷ the_mark mark.Semicolon ∷ [])
-    (λ ss to xs. (xs.1.0.0, xs.1.0.1, xs.1.1.1.0, xs.1.1.1.1.1.0.0, xs.1.1.1.1.1.0.1))
-delta (case_head v w) (K.Reserved word.Is) = eat (the_reserved w ∷ binder v ∷ []) (λ ss to xs. xs.1.0)
+    (λ ss to (opening, ((x, a), (equals, (m, (comma, ((y, b), rest)))))). (x, a, m, y, b))
+delta (case_head v w) (K.Reserved word.Is) =
+    eat (the_reserved w ∷ binder v ∷ []) (λ ss to (keyword, (b, rest)). b)
 delta (decrypt_head v) (K.Reserved word.Is) =
     eat (the_mark mark.BraceOpen ∷ named v ∷ the_mark mark.BraceClose ∷ msg v false 1
-    ∷ the_mark mark.Semicolon ∷ []) (λ ss to xs. (xs.1.0.0, xs.1.0.1, xs.1.1.1.0))
+    ∷ the_mark mark.Semicolon ∷ []) (λ ss to (opening, ((x, a), (close, (m, rest)))). (x, a, m))
 delta (check_head v) (K.Reserved word.Is) =
-    eat (msg v false 1 ∷ the_mark mark.Semicolon ∷ []) (λ ss to xs. xs.0)
-delta (cast_head v) (K.Reserved word.Is) = eat (binder v ∷ []) (λ ss to xs. xs.0)
+    eat (msg v false 1 ∷ the_mark mark.Semicolon ∷ []) (λ ss to (m, rest). m)
+delta (cast_head v) (K.Reserved word.Is) = eat (binder v ∷ []) (λ ss to (b, rest). b)
 delta (sproc v n) _ =
-    stay (seq v (n + 1) ∷ par_tail v n ∷ []) tt (λ ss to xs. par_of (over ss to) xs.0 xs.1.0)
+    stay (seq v (n + 1) ∷ par_tail v n ∷ []) tt (λ ss to (p, (q, rest)). par_of (over ss to) p q)
 delta (seq v n) k = form_move v n (form_of v k)
-delta (out_tail v n) (K.Mark mark.Semicolon) = eat (seq v (n + 1) ∷ []) (λ ss to xs. Some xs.0)
+delta (out_tail v n) (K.Mark mark.Semicolon) = eat (seq v (n + 1) ∷ []) (λ ss to (p, rest). Some p)
 delta (out_tail v n) _ = skip None
-delta (par_tail v n) (K.Mark mark.Bar) = eat (sproc v (n + 1) ∷ []) (λ ss to xs. Some xs.0)
+delta (par_tail v n) (K.Mark mark.Bar) = eat (sproc v (n + 1) ∷ []) (λ ss to (p, rest). Some p)
 delta (par_tail v n) _ = skip None
-delta words_item (K.Mark mark.Comma) = eat (the_word ∷ []) (λ ss to xs. one xs.0)
+delta words_item (K.Mark mark.Comma) = eat (the_word ∷ []) (λ ss to (x, rest). one x)
 delta words_item (K.Mark mark.Semicolon) = eat [] (λ ss to xs. last tt)
-delta words (K.Mark mark.Comma) = eat (the_word ∷ words ∷ []) (λ ss to xs. (xs.0 ∷ xs.1.0.0, xs.1.0.1))
+delta words (K.Mark mark.Comma) = eat (the_word ∷ words ∷ []) (λ ss to (x, ((xs, end), rest)). (x ∷ xs, end))
 delta words (K.Mark mark.Semicolon) = eat [] (λ ss to xs. ([], tt))
-delta free_rest _ = stay (the_word ∷ words ∷ []) tt (λ ss to xs. (xs.0, xs.1.0.0, to))
+delta free_rest _ = stay (the_word ∷ words ∷ []) tt (λ ss to (x, ((xs, end), rest)). (x, xs, to))
 delta (abbr_rest v) _ =
     stay (the_word ∷ the_mark mark.Equals ∷ ty v 1 ∷ the_mark mark.Semicolon ∷ []) tt
-    (λ ss to xs. (xs.0, xs.1.1.0, to))
-delta (decl v) (K.Reserved word.Free) = eat (free_rest ∷ []) (λ ss to xs. free_from ss xs.0)
-delta (decl v) (K.Reserved word.TypeWord) = eat (abbr_rest v ∷ []) (λ ss to xs. abbr_from ss xs.0)
-delta (decls_item v) (K.Reserved word.Free) = eat (free_rest ∷ []) (λ ss to xs. one (free_from ss xs.0))
-delta (decls_item v) (K.Reserved word.TypeWord) = eat (abbr_rest v ∷ []) (λ ss to xs. one (abbr_from ss xs.0))
+    (λ ss to (x, (equals, (a, rest))). (x, a, to))
+delta (decl v) (K.Reserved word.Free) = eat (free_rest ∷ []) (λ ss to (free, rest). free_from ss free)
+delta (decl v) (K.Reserved word.TypeWord) = eat (abbr_rest v ∷ []) (λ ss to (abbr, rest). abbr_from ss abbr)
+delta (decls_item v) (K.Reserved word.Free) =
+    eat (free_rest ∷ []) (λ ss to (free, rest). one (free_from ss free))
+delta (decls_item v) (K.Reserved word.TypeWord) =
+    eat (abbr_rest v ∷ []) (λ ss to (abbr, rest). one (abbr_from ss abbr))
 delta (decls_item v) (K.Reserved word.Process) = eat [] (λ ss to xs. last tt)
 delta (decls v) (K.Reserved word.Free) =
-    eat (free_rest ∷ decls v ∷ []) (λ ss to xs. (free_from ss xs.0 ∷ xs.1.0.0, xs.1.0.1))
+    eat (free_rest ∷ decls v ∷ []) (λ ss to (free, ((ds, end), rest)). (free_from ss free ∷ ds, end))
 delta (decls v) (K.Reserved word.TypeWord) =
-    eat (abbr_rest v ∷ decls v ∷ []) (λ ss to xs. (abbr_from ss xs.0 ∷ xs.1.0.0, xs.1.0.1))
+    eat (abbr_rest v ∷ decls v ∷ []) (λ ss to (abbr, ((ds, end), rest)). (abbr_from ss abbr ∷ ds, end))
 delta (decls v) (K.Reserved word.Process) = eat [] (λ ss to xs. ([], tt))
-delta act_rest _ = stay (the_number ∷ the_mark mark.Semicolon ∷ []) tt (λ ss to xs. (xs.0, to))
+delta act_rest _ = stay (the_number ∷ the_mark mark.Semicolon ∷ []) tt (λ ss to (i, rest). (i, to))
 delta talk_rest _ =
-    stay (the_number ∷ the_number ∷ the_mark mark.Semicolon ∷ []) tt (λ ss to xs. (xs.0, xs.1.0, to))
+    stay (the_number ∷ the_number ∷ the_mark mark.Semicolon ∷ []) tt (λ ss to (i, (j, rest)). (i, j, to))
 delta steps_item (K.Word w) =
-    if is_act w then eat (act_rest ∷ []) (λ ss to xs. one (act_from ss xs.0)) else
-    (if is_talk w then eat (talk_rest ∷ []) (λ ss to xs. one (talk_from ss xs.0)) else skip (last tt))
+    if is_act w then eat (act_rest ∷ []) (λ ss to (step, rest). one (act_from ss step)) else
+    (if is_talk w then eat (talk_rest ∷ []) (λ ss to (step, rest). one (talk_from ss step))
+    else skip (last tt))
 delta steps_item _ = skip (last tt)
 delta steps (K.Word w) =
-    if is_act w then eat (act_rest ∷ steps ∷ []) (λ ss to xs. (act_from ss xs.0 ∷ xs.1.0.0, xs.1.0.1)) else
-    (if is_talk w then eat (talk_rest ∷ steps ∷ []) (λ ss to xs. (talk_from ss xs.0 ∷ xs.1.0.0, xs.1.0.1))
-    else skip ([], tt))
+    if is_act w then eat (act_rest ∷ steps ∷ [])
+    (λ ss to (step, ((more, end), rest)). (act_from ss step ∷ more, end)) else
+    (if is_talk w then eat (talk_rest ∷ steps ∷ [])
+    (λ ss to (step, ((more, end), rest)). (talk_from ss step ∷ more, end)) else skip ([], tt))
 delta steps _ = skip ([], tt)
 delta (deriv v n) (K.Word w) = rule_move v n w (arity_of v w) (writes_effect w)
-delta (opponent_tail v) (K.Reserved word.Opponent) = eat (sproc v 0 ∷ []) (λ ss to xs. Some xs.0)
+delta (opponent_tail v) (K.Reserved word.Opponent) = eat (sproc v 0 ∷ []) (λ ss to (p, rest). Some p)
 delta (opponent_tail v) _ = skip None
-delta schedule_tail (K.Reserved word.Schedule) = eat (steps ∷ []) (λ ss to xs. Some xs.0.0)
+delta schedule_tail (K.Reserved word.Schedule) = eat (steps ∷ []) (λ ss to ((more, end), rest). Some more)
 delta schedule_tail _ = skip None
-delta (derivation_tail v) (K.Reserved word.Derivation) = eat (deriv v 1 ∷ []) (λ ss to xs. Some xs.0)
+delta (derivation_tail v) (K.Reserved word.Derivation) = eat (deriv v 1 ∷ []) (λ ss to (d, rest). Some d)
 delta (derivation_tail v) _ = skip None
 delta (body v) _ = stay (decls v ∷ sproc v 0 ∷ opponent_tail v ∷ schedule_tail ∷ derivation_tail v ∷ []) tt
-    (λ ss to xs. record {
-      decls = xs.0.0;
-      process = xs.1.0;
-      opponent = xs.1.1.0;
-      schedule = xs.1.1.1.0;
-      derivation = xs.1.1.1.1.0;
+    (λ ss to ((ds, end), (p, (opponent, (schedule, (derivation, rest))))). record {
+      decls = ds;
+      process = p;
+      opponent = opponent;
+      schedule = schedule;
+      derivation = derivation;
     })
 delta file (K.Word w) =
     if is_version_word w then eat (the_two ∷ the_mark mark.Semicolon ∷ body true ∷ [])
-    (λ ss to xs. file_from 2 (over ss to) xs.1.1.0) else fail
-delta file _ = stay (body false ∷ []) tt (λ ss to xs. file_from 1 (over ss to) xs.0)
+    (λ ss to (two, (semicolon, (whole, rest))). file_from 2 (over ss to) whole) else fail
+delta file _ = stay (body false ∷ []) tt (λ ss to (whole, rest). file_from 1 (over ss to) whole)
 delta _ _ = fail
 
 -- what stands for the symbol at the end of the tokens

@@ -13,23 +13,25 @@ use Rattle.spi_parse.specs.Places.{parts}
 abbrev pub one_form : (v : Bool) (n : ℕ) → List ℕ → List Span → State → Out t.Deriv
 one_form v n w =
     parts (deriv v n) (deriv v (n + 1) ∷ [])
-    (λ ss to xs. t.rule (over ss to) (word_at w (first ss)) None (t.derivs_of_list (xs.0 ∷ [])))
+    (λ ss to (d, rest). t.rule (over ss to) (word_at w (first ss)) None (t.derivs_of_list (d ∷ [])))
 
 abbrev pub two_form : (v : Bool) (n : ℕ) → List ℕ → List Span → State → Out t.Deriv
 two_form v n w =
     parts (deriv v n) (deriv v (n + 1) ∷ deriv v (n + 1) ∷ [])
-    (λ ss to xs. t.rule (over ss to) (word_at w (first ss)) None (t.derivs_of_list (xs.0 ∷ xs.1.0 ∷ [])))
+    (λ ss to (d, (d', rest)). t.rule (over ss to) (word_at w (first ss)) None
+    (t.derivs_of_list (d ∷ d' ∷ [])))
 
 abbrev pub three_form : (v : Bool) (n : ℕ) → List ℕ → List Span → State → Out t.Deriv
 three_form v n w =
     parts (deriv v n) (deriv v (n + 1) ∷ deriv v (n + 1) ∷ deriv v (n + 1) ∷ [])
-    (λ ss to xs. t.rule (over ss to) (word_at w (first ss)) None
-    (t.derivs_of_list (xs.0 ∷ xs.1.0 ∷ xs.1.1.0 ∷ [])))
+    (λ ss to (d, (d', (d'', rest))). t.rule (over ss to) (word_at w (first ss)) None
+    (t.derivs_of_list (d ∷ d' ∷ d'' ∷ [])))
 
 abbrev pub sub_form : (v : Bool) (n : ℕ) → List ℕ → List Span → State → Out t.Deriv
 sub_form v n w =
     parts (deriv v n) (effect v true 0 ∷ deriv v (n + 1) ∷ [])
-    (λ ss to xs. t.rule (over ss to) (word_at w (first ss)) (Some xs.0) (t.derivs_of_list (xs.1.0 ∷ [])))
+    (λ ss to (es, (d, rest)). t.rule (over ss to) (word_at w (first ss)) (Some es)
+    (t.derivs_of_list (d ∷ [])))
 
 abbrev pub body_of : FileParts → Body
 body_of p = record {
@@ -42,7 +44,7 @@ body_of p = record {
 
 abbrev pub later_form : List Span → State → Out t.File
 later_form = parts file (the_two ∷ the_mark mark.Semicolon ∷ body true ∷ [])
-    (λ ss to xs. file_from 2 (over ss to) xs.1.1.0)
+    (λ ss to (two, (semicolon, (whole, rest))). file_from 2 (over ss to) whole)
 
 abbrev pub first_form : List Span → State → Out t.File
-first_form = parts file (body false ∷ []) (λ ss to xs. file_from 1 (over ss to) xs.0)
+first_form = parts file (body false ∷ []) (λ ss to (whole, rest). file_from 1 (over ss to) whole)

@@ -10,7 +10,7 @@ ghost use Rattle.spi_parse.specs.Wholes.{one_form, two_form, three_form, sub_for
 ghost use Rattle.spi_parse.specs.Rules.{arity_of, writes_effect, is_late};
 ghost use Rattle.spi_parse.specs.Shapes.{is_sub, by_arity, IsTreeShape};
 ghost use Rattle.spi_parse.specs.Table.{deriv, over};
-ghost use Rattle.spi_parse.specs.Reading.{read, reads_step, limited};
+ghost use Rattle.spi_parse.specs.Reading.{read, limited};
 
 use crate::NoMemory;
 use crate::cursor::{Cursor, DERIVATION_LIMIT, Read, copy_word, fits, span_from, syntax};
@@ -119,15 +119,6 @@ fn leaf(alloc: Global, rule: SWord, span: Span) -> Result<Box<SDeriv>, NoMemory>
 pub fn boxed_derivation(alloc: Global, at: Cursor<'_>, later: bool, nesting: u32) -> Part<'_>
     requires { nesting ≤ 1001 }
     ensures { GivesBox deriv_of result (read limited (deriv later nesting) (state_of at.entry)) }
-{
-    derivation_step(alloc, at, later, nesting)
-}
-
-#[cycle(derivations)]
-fn derivation_step(alloc: Global, at: Cursor<'_>, later: bool, nesting: u32) -> Part<'_>
-    requires { nesting ≤ 1001 }
-    ensures { GivesBox deriv_of result
-        (reads_step limited (read limited) (deriv later nesting) (state_of at.entry)) }
 {
     let [first, rest @ ..] = at.rest else {
         return Err(syntax(0));

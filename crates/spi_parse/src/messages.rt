@@ -6,7 +6,7 @@ ghost use Rattle.spi_tree.specs.Views.{msg_of};
 ghost use Rattle.spi_parse.specs.Places.{state_of, tuple_form, enc_form, inl_form, inr_form, hash_form, GivesPart, GivesBox};
 ghost use Rattle.spi_parse.specs.Ends.{done, numeral_form};
 ghost use Rattle.spi_parse.specs.Table.{msg, msgs, msgs_item, delta_paren, word_at, over};
-ghost use Rattle.spi_parse.specs.Reading.{read, reads_step, limited, behind_move, item_of};
+ghost use Rattle.spi_parse.specs.Reading.{read, limited, behind_move, item_of};
 
 use crate::boxes::{TreePart, boxed};
 use crate::cursor::{
@@ -18,8 +18,8 @@ use spi_text::{Span, Text};
 use spi_tree::SMsg;
 use std::alloc::Global;
 
-/// A message in a box, with the place behind it.
-type Part<'t> = Read<'t, Box<SMsg>>;
+/// A message, with the place behind it.
+type Part<'t> = Read<'t, SMsg>;
 
 impl TreePart for SMsg {
     ghost Tree = { Msg };
@@ -61,29 +61,11 @@ pub fn message(alloc: Global, at: Cursor<'_>, later: bool) -> Read<'_, SMsg>
 }
 
 /// A message that stands so.
-pub fn message_of(alloc: Global, at: Cursor<'_>, node: Node) -> Read<'_, SMsg>
+#[cycle(messages)]
+pub fn message_of(alloc: Global, at: Cursor<'_>, node: Node) -> Part<'_>
     requires { node.nesting ≤ 1001 }
     ensures { GivesPart msg_of result
         (read limited (msg node.later node.numbered node.nesting) (state_of at.entry)) }
-{
-    let (tree, at) = boxed_message(alloc, at, node)?;
-    Ok((Box::into_inner(tree), at))
-}
-
-#[cycle(messages)]
-fn boxed_message(alloc: Global, at: Cursor<'_>, node: Node) -> Part<'_>
-    requires { node.nesting ≤ 1001 }
-    ensures { GivesBox msg_of result
-        (read limited (msg node.later node.numbered node.nesting) (state_of at.entry)) }
-{
-    message_step(alloc, at, node)
-}
-
-#[cycle(messages)]
-fn message_step(alloc: Global, at: Cursor<'_>, node: Node) -> Part<'_>
-    requires { node.nesting ≤ 1001 }
-    ensures { GivesBox msg_of result
-        (reads_step limited (read limited) (msg node.later node.numbered node.nesting) (state_of at.entry)) }
 {
     let (first, next) = next_token(at)?;
     match &first.kind {
@@ -103,7 +85,7 @@ fn message_step(alloc: Global, at: Cursor<'_>, node: Node) -> Part<'_>
         Kind::Mark(Mark::NumberSign) => {
             accept(node.numbered, at.rest.len())?;
             fits(node.nesting, MESSAGE_LIMIT, at.rest.len())?;
-            read_numeral(alloc, first.span, next, node)
+            read_numeral(first.span, next, node)
         }
         Kind::Reserved(Reserved::Inl) => {
             fits(node.nesting, MESSAGE_LIMIT, at.rest.len())?;
@@ -122,26 +104,37 @@ fn message_step(alloc: Global, at: Cursor<'_>, node: Node) -> Part<'_>
     }
 }
 
-fn read_name<'t>(alloc: Global, word: &Text, span: Span, at: Cursor<'t>) -> Part<'t>
-    ensures { GivesBox msg_of result (done (name span (word_at word.now span)) (state_of at.entry)) }
+// The message in a box: it is one while the next part is read, so that deep messages fit the stack.
+#[cycle(messages)]
+fn boxed_message(alloc: Global, at: Cursor<'_>, node: Node) -> Read<'_, Box<SMsg>>
+    requires { node.nesting ≤ 1001 }
+    ensures { GivesBox msg_of result
+        (read limited (msg node.later node.numbered node.nesting) (state_of at.entry)) }
 {
-    let name = placed_word(alloc, word, span)?;
-    boxed(alloc, SMsg::Name { name, span }, at)
+    let (tree, at) = message_of(alloc, at, node)?;
+    boxed(alloc, tree, at)
 }
 
-fn read_numeral(alloc: Global, first: Span, at: Cursor<'_>, node: Node) -> Part<'_>
-    ensures { GivesBox msg_of result
+fn read_name<'t>(alloc: Global, word: &Text, span: Span, at: Cursor<'t>) -> Part<'t>
+    ensures { GivesPart msg_of result (done (name span (word_at word.now span)) (state_of at.entry)) }
+{
+    let name = placed_word(alloc, word, span)?;
+    Ok((SMsg::Name { name, span }, at))
+}
+
+fn read_numeral(first: Span, at: Cursor<'_>, node: Node) -> Part<'_>
+    ensures { GivesPart msg_of result
         (numeral_form node.later node.numbered node.nesting (first ∷ []) (state_of at.entry)) }
 {
     let (number, at) = take_number(at)?;
     let span = span_from(first, at);
-    boxed(alloc, SMsg::Num { number, span }, at)
+    Ok((SMsg::Num { number, span }, at))
 }
 
 #[cycle(messages)]
 fn read_enc(alloc: Global, first: Span, at: Cursor<'_>, node: Node) -> Part<'_>
     requires { node.nesting ≤ 1000 }
-    ensures { GivesBox msg_of result
+    ensures { GivesPart msg_of result
         (enc_form node.later node.numbered node.nesting (first ∷ []) (state_of at.entry)) }
 {
     let inner = Node {
@@ -152,13 +145,13 @@ fn read_enc(alloc: Global, first: Span, at: Cursor<'_>, node: Node) -> Part<'_>
     let at = take_mark(at, Mark::BraceClose)?;
     let (key, at) = boxed_message(alloc, at, inner)?;
     let span = span_from(first, at);
-    boxed(alloc, SMsg::Enc { body, key, span }, at)
+    Ok((SMsg::Enc { body, key, span }, at))
 }
 
 #[cycle(messages)]
 fn read_inl(alloc: Global, first: Span, at: Cursor<'_>, node: Node) -> Part<'_>
     requires { node.nesting ≤ 1000 }
-    ensures { GivesBox msg_of result
+    ensures { GivesPart msg_of result
         (inl_form node.later node.numbered node.nesting (first ∷ []) (state_of at.entry)) }
 {
     let inner = Node {
@@ -167,13 +160,13 @@ fn read_inl(alloc: Global, first: Span, at: Cursor<'_>, node: Node) -> Part<'_>
     };
     let (part, at) = boxed_message(alloc, at, inner)?;
     let span = span_from(first, at);
-    boxed(alloc, SMsg::Inl { part, span }, at)
+    Ok((SMsg::Inl { part, span }, at))
 }
 
 #[cycle(messages)]
 fn read_inr(alloc: Global, first: Span, at: Cursor<'_>, node: Node) -> Part<'_>
     requires { node.nesting ≤ 1000 }
-    ensures { GivesBox msg_of result
+    ensures { GivesPart msg_of result
         (inr_form node.later node.numbered node.nesting (first ∷ []) (state_of at.entry)) }
 {
     let inner = Node {
@@ -182,13 +175,13 @@ fn read_inr(alloc: Global, first: Span, at: Cursor<'_>, node: Node) -> Part<'_>
     };
     let (part, at) = boxed_message(alloc, at, inner)?;
     let span = span_from(first, at);
-    boxed(alloc, SMsg::Inr { part, span }, at)
+    Ok((SMsg::Inr { part, span }, at))
 }
 
 #[cycle(messages)]
 fn read_hash(alloc: Global, first: Span, at: Cursor<'_>, node: Node) -> Part<'_>
     requires { node.nesting ≤ 1000 }
-    ensures { GivesBox msg_of result
+    ensures { GivesPart msg_of result
         (hash_form node.later node.numbered node.nesting (first ∷ []) (state_of at.entry)) }
 {
     let inner = Node {
@@ -199,13 +192,13 @@ fn read_hash(alloc: Global, first: Span, at: Cursor<'_>, node: Node) -> Part<'_>
     let (part, at) = boxed_message(alloc, at, inner)?;
     let at = take_mark(at, Mark::ParenClose)?;
     let span = span_from(first, at);
-    boxed(alloc, SMsg::Hash { part, span }, at)
+    Ok((SMsg::Hash { part, span }, at))
 }
 
 #[cycle(messages)]
 fn message_in_parens(alloc: Global, first: Span, at: Cursor<'_>, node: Node) -> Part<'_>
     requires { node.nesting ≤ 1000 }
-    ensures { GivesBox msg_of result
+    ensures { GivesPart msg_of result
         (behind_move limited (read limited) (delta_paren node.later node.numbered node.nesting) (first ∷ [])
         (state_of at.entry)) }
 {
@@ -213,7 +206,7 @@ fn message_in_parens(alloc: Global, first: Span, at: Cursor<'_>, node: Node) -> 
     match second.kind {
         Kind::Mark(Mark::ParenClose) => {
             let span = span_from(first, next);
-            boxed(alloc, SMsg::Unit { span }, next)
+            Ok((SMsg::Unit { span }, next))
         }
         _ => read_tuple(alloc, first, at, node),
     }
@@ -222,7 +215,7 @@ fn message_in_parens(alloc: Global, first: Span, at: Cursor<'_>, node: Node) -> 
 #[cycle(messages)]
 fn read_tuple(alloc: Global, opening: Span, at: Cursor<'_>, node: Node) -> Part<'_>
     requires { node.nesting ≤ 1000 }
-    ensures { GivesBox msg_of result
+    ensures { GivesPart msg_of result
         (tuple_form node.later node.numbered node.nesting (opening ∷ []) (state_of at.entry)) }
 {
     let inner = Node {
@@ -233,24 +226,23 @@ fn read_tuple(alloc: Global, opening: Span, at: Cursor<'_>, node: Node) -> Part<
     let at = take_mark(at, Mark::Comma)?;
     let (second, at) = boxed_message(alloc, at, inner)?;
     let (more, at) = more_messages(alloc, at, inner)?;
-    end_tuple(alloc, opening, first, second, more, at)
+    end_tuple(opening, first, second, more, at)
 }
 
 /// The tuple of these parts, which ends before this place.
 fn end_tuple(
-    alloc: Global,
     opening: Span,
     first: Box<SMsg>,
     second: Box<SMsg>,
     more: Vec<SMsg>,
     at: Cursor<'_>,
 ) -> Part<'_>
-    ensures { GivesBox msg_of result
+    ensures { GivesPart msg_of result
         (done (tuple (over (opening ∷ []) at.entry.end) (msg_of first.value) (msg_of second.value)
         (msgs_of_list (map msg_of more.items))) (state_of at.entry)) }
 {
     let span = span_from(opening, at);
-    boxed(alloc, make_tuple(first, second, more, span), at)
+    Ok((make_tuple(first, second, more, span), at))
 }
 
 #[cycle(messages)]
@@ -264,7 +256,7 @@ fn more_messages(alloc: Global, start: Cursor<'_>, node: Node) -> Read<'_, Vec<S
     'items: loop {
         let (item, after) = next_message(alloc, at, node)?;
         match item {
-            Some(part) => more.push(Box::into_inner(part))?,
+            Some(part) => more.push(part)?,
             None => return Ok((more, after)),
         }
         at = after;
@@ -272,15 +264,15 @@ fn more_messages(alloc: Global, start: Cursor<'_>, node: Node) -> Read<'_, Vec<S
 }
 
 #[cycle(messages)]
-fn next_message(alloc: Global, at: Cursor<'_>, node: Node) -> Read<'_, Option<Box<SMsg>>>
+fn next_message(alloc: Global, at: Cursor<'_>, node: Node) -> Read<'_, Option<SMsg>>
     requires { node.nesting ≤ 1001 }
-    ensures { GivesPart (item_of (λ b. msg_of b.value) tt) result
+    ensures { GivesPart (item_of msg_of tt) result
         (read limited (msgs_item node.later node.numbered node.nesting) (state_of at.entry)) }
 {
     let (first, next) = next_token(at)?;
     match first.kind {
         Kind::Mark(Mark::Comma) => {
-            let (part, at) = boxed_message(alloc, next, node)?;
+            let (part, at) = message_of(alloc, next, node)?;
             Ok((Some(part), at))
         }
         Kind::Mark(Mark::ParenClose) => Ok((None, next)),

@@ -6,7 +6,7 @@ ghost use Rattle.spi_tree.specs.Views.{ty_of, field_of, last_of};
 ghost use Rattle.spi_parse.specs.Places.{state_of, field_item, sum_form, key_form, nonce_form, tuple_ty_form, sum_word_form, GivesPart, GivesBox};
 ghost use Rattle.spi_parse.specs.Ends.{done, sum_end};
 ghost use Rattle.spi_parse.specs.Table.{one, last, ty, fields, fields_item, fields_rest, delta_ty_paren, delta_ty_word, delta_item_word, word_at, over};
-ghost use Rattle.spi_parse.specs.Reading.{Gives, read, reads_step, limited, behind_move};
+ghost use Rattle.spi_parse.specs.Reading.{Gives, read, limited, behind_move};
 
 use crate::NoMemory;
 use crate::boxes::{TreePart, boxed};
@@ -22,8 +22,8 @@ use spi_text::{Span, Text};
 use spi_tree::{Last, SField, STy, SWord};
 use std::alloc::Global;
 
-/// A type in a box, with the place behind it.
-type Part<'t> = Read<'t, Box<STy>>;
+/// A type, with the place behind it.
+type Part<'t> = Read<'t, STy>;
 
 impl TreePart for STy {
     ghost Tree = { Ty };
@@ -31,8 +31,8 @@ impl TreePart for STy {
     ghost view = { ty_of };
 }
 
-/// What stands behind a comma of a tuple type, in a box, with the place behind it.
-type Item<'t> = Read<'t, Box<FieldOrLast>>;
+/// What stands behind a comma of a tuple type, with the place behind it.
+type Item<'t> = Read<'t, FieldOrLast>;
 
 /// What stands behind a comma of a tuple type.
 #[derive(Drop)]
@@ -68,27 +68,10 @@ fn boxed_last(alloc: Global, last: Last) -> Result<Box<Last>, NoMemory>
 }
 
 /// A type of a nesting.
-pub fn read_type(alloc: Global, at: Cursor<'_>, later: bool, nesting: u32) -> Read<'_, STy>
+#[cycle(types)]
+pub fn read_type(alloc: Global, at: Cursor<'_>, later: bool, nesting: u32) -> Part<'_>
     requires { nesting ≤ 1001 }
     ensures { GivesPart ty_of result (read limited (ty later nesting) (state_of at.entry)) }
-{
-    let (tree, at) = boxed_type(alloc, at, later, nesting)?;
-    Ok((Box::into_inner(tree), at))
-}
-
-#[cycle(types)]
-fn boxed_type(alloc: Global, at: Cursor<'_>, later: bool, nesting: u32) -> Part<'_>
-    requires { nesting ≤ 1001 }
-    ensures { GivesBox ty_of result (read limited (ty later nesting) (state_of at.entry)) }
-{
-    type_step(alloc, at, later, nesting)
-}
-
-#[cycle(types)]
-fn type_step(alloc: Global, at: Cursor<'_>, later: bool, nesting: u32) -> Part<'_>
-    requires { nesting ≤ 1001 }
-    ensures { GivesBox ty_of result
-        (reads_step limited (read limited) (ty later nesting) (state_of at.entry)) }
 {
     let (first, next) = next_token(at)?;
     match &first.kind {
@@ -98,7 +81,7 @@ fn type_step(alloc: Global, at: Cursor<'_>, later: bool, nesting: u32) -> Part<'
         }
         Kind::Reserved(Reserved::Un) => {
             fits(nesting, MESSAGE_LIMIT, at.rest.len())?;
-            boxed(alloc, STy::Un { span: first.span }, next)
+            Ok((STy::Un { span: first.span }, next))
         }
         Kind::Reserved(Reserved::Key) => {
             fits(nesting, MESSAGE_LIMIT, at.rest.len())?;
@@ -116,16 +99,26 @@ fn type_step(alloc: Global, at: Cursor<'_>, later: bool, nesting: u32) -> Part<'
     }
 }
 
+// The type in a box: it is one while the next part is read, so that deep types fit the stack.
+#[cycle(types)]
+fn boxed_type(alloc: Global, at: Cursor<'_>, later: bool, nesting: u32) -> Read<'_, Box<STy>>
+    requires { nesting ≤ 1001 }
+    ensures { GivesBox ty_of result (read limited (ty later nesting) (state_of at.entry)) }
+{
+    let (tree, at) = read_type(alloc, at, later, nesting)?;
+    boxed(alloc, tree, at)
+}
+
 fn read_abbreviation<'t>(alloc: Global, word: &Text, span: Span, at: Cursor<'t>) -> Part<'t>
-    ensures { GivesBox ty_of result (done (abbr span (word_at word.now span)) (state_of at.entry)) }
+    ensures { GivesPart ty_of result (done (abbr span (word_at word.now span)) (state_of at.entry)) }
 {
     let name = placed_word(alloc, word, span)?;
-    boxed(alloc, STy::Abbr { name, span }, at)
+    Ok((STy::Abbr { name, span }, at))
 }
 
 fn read_nonce(alloc: Global, first: Span, at: Cursor<'_>, later: bool, nesting: u32) -> Part<'_>
     requires { nesting ≤ 1000 }
-    ensures { GivesBox ty_of result (nonce_form later nesting (first ∷ []) (state_of at.entry)) }
+    ensures { GivesPart ty_of result (nonce_form later nesting (first ∷ []) (state_of at.entry)) }
 {
     let atoms = Node {
         later,
@@ -134,32 +127,32 @@ fn read_nonce(alloc: Global, first: Span, at: Cursor<'_>, later: bool, nesting: 
     };
     let (effect, at) = effect(alloc, at, atoms)?;
     let span = span_from(first, at);
-    boxed(alloc, STy::Nonce { effect, span }, at)
+    Ok((STy::Nonce { effect, span }, at))
 }
 
 #[cycle(types)]
 fn read_key(alloc: Global, first: Span, at: Cursor<'_>, later: bool, nesting: u32) -> Part<'_>
     requires { nesting ≤ 1000 }
-    ensures { GivesBox ty_of result (key_form later nesting (first ∷ []) (state_of at.entry)) }
+    ensures { GivesPart ty_of result (key_form later nesting (first ∷ []) (state_of at.entry)) }
 {
     let at = take_mark(at, Mark::ParenOpen)?;
     let (part, at) = boxed_type(alloc, at, later, nesting + 1)?;
     let at = take_mark(at, Mark::ParenClose)?;
     let span = span_from(first, at);
-    boxed(alloc, STy::Key { part, span }, at)
+    Ok((STy::Key { part, span }, at))
 }
 
 #[cycle(types)]
 fn type_in_parens(alloc: Global, first: Span, at: Cursor<'_>, later: bool, nesting: u32) -> Part<'_>
     requires { nesting ≤ 1000 }
-    ensures { GivesBox ty_of result
+    ensures { GivesPart ty_of result
         (behind_move limited (read limited) (delta_ty_paren later nesting) (first ∷ []) (state_of at.entry)) }
 {
     let (second, next) = next_token(at)?;
     match &second.kind {
         Kind::Mark(Mark::ParenClose) => {
             let span = span_from(first, next);
-            boxed(alloc, STy::Unit { span }, next)
+            Ok((STy::Unit { span }, next))
         }
         Kind::Word(word) => {
             fits(nesting + 1, MESSAGE_LIMIT, at.rest.len())?;
@@ -172,22 +165,22 @@ fn type_in_parens(alloc: Global, first: Span, at: Cursor<'_>, later: bool, nesti
 #[cycle(types)]
 fn read_sum(alloc: Global, first: Span, at: Cursor<'_>, later: bool, nesting: u32) -> Part<'_>
     requires { nesting ≤ 1000 }
-    ensures { GivesBox ty_of result (sum_form later nesting (first ∷ []) (state_of at.entry)) }
+    ensures { GivesPart ty_of result (sum_form later nesting (first ∷ []) (state_of at.entry)) }
 {
     let (left, at) = boxed_type(alloc, at, later, nesting + 1)?;
     let at = take_mark(at, Mark::Plus)?;
     let (right, at) = boxed_type(alloc, at, later, nesting + 1)?;
-    end_sum(alloc, first, left, right, at)
+    end_sum(first, left, right, at)
 }
 
 /// The sum of two types, where its parenthesis closes.
-fn end_sum(alloc: Global, first: Span, left: Box<STy>, right: Box<STy>, at: Cursor<'_>) -> Part<'_>
-    ensures { GivesBox ty_of result
+fn end_sum(first: Span, left: Box<STy>, right: Box<STy>, at: Cursor<'_>) -> Part<'_>
+    ensures { GivesPart ty_of result
         (sum_end (first ∷ []) (ty_of left.value) (ty_of right.value) (state_of at.entry)) }
 {
     let at = take_mark(at, Mark::ParenClose)?;
     let span = span_from(first, at);
-    boxed(alloc, STy::Sum { left, right, span }, at)
+    Ok((STy::Sum { left, right, span }, at))
 }
 
 #[cycle(types)]
@@ -201,7 +194,7 @@ fn type_behind_word<'t>(
     nesting: u32,
 ) -> Part<'t>
     requires { nesting ≤ 999 }
-    ensures { GivesBox ty_of result
+    ensures { GivesPart ty_of result
         (behind_move limited (read limited) (delta_ty_word later nesting word.now) (first ∷ place ∷ [])
         (state_of at.entry)) }
 {
@@ -224,7 +217,7 @@ fn read_tuple_type<'t>(
     nesting: u32,
 ) -> Part<'t>
     requires { nesting ≤ 999 }
-    ensures { GivesBox ty_of result
+    ensures { GivesPart ty_of result
         (tuple_ty_form later nesting word.now (first ∷ place ∷ []) (state_of at.entry)) }
 {
     let (part, at) = boxed_type(alloc, at, later, nesting + 1)?;
@@ -244,13 +237,13 @@ fn end_tuple_type<'t>(
     last: Box<Last>,
     at: Cursor<'t>,
 ) -> Part<'t>
-    ensures { GivesBox ty_of result
+    ensures { GivesPart ty_of result
         (done (tuple_ty (over (first ∷ []) at.entry.end) (word_at word.now place) (ty_of part.value)
         (fields_of_list (map field_of more.items)) (last_of last.value)) (state_of at.entry)) }
 {
     let name = placed_word(alloc, word, place)?;
     let span = span_from(first, at);
-    boxed(alloc, make_tuple_type(name, part, more, last, span), at)
+    Ok((make_tuple_type(name, part, more, last, span), at))
 }
 
 #[cycle(types)]
@@ -264,7 +257,7 @@ fn read_sum_of_word<'t>(
     nesting: u32,
 ) -> Part<'t>
     requires { nesting ≤ 999 }
-    ensures { GivesBox ty_of result
+    ensures { GivesPart ty_of result
         (sum_word_form later nesting word.now (first ∷ place ∷ []) (state_of at.entry)) }
 {
     let (right, at) = boxed_type(alloc, at, later, nesting + 1)?;
@@ -280,14 +273,14 @@ fn end_sum_of_word<'t>(
     right: Box<STy>,
     at: Cursor<'t>,
 ) -> Part<'t>
-    ensures { GivesBox ty_of result
+    ensures { GivesPart ty_of result
         (sum_end (first ∷ []) (abbr place (word_at word.now place)) (ty_of right.value) (state_of at.entry)) }
 {
     let at = take_mark(at, Mark::ParenClose)?;
     let name = placed_word(alloc, word, place)?;
     let left = Box::new(alloc, STy::Abbr { name, span: place })?;
     let span = span_from(first, at);
-    boxed(alloc, STy::Sum { left, right, span }, at)
+    Ok((STy::Sum { left, right, span }, at))
 }
 
 #[cycle(types)]
@@ -305,7 +298,7 @@ fn read_fields(
     let mut at = start;
     'items: loop {
         let (item, after) = next_field(alloc, at, later, nesting)?;
-        match Box::into_inner(item) {
+        match item {
             FieldOrLast::Field(part) => more.push(part)?,
             FieldOrLast::Last(last) => return Ok((more, boxed_last(alloc, last)?, after)),
         }
@@ -314,50 +307,39 @@ fn read_fields(
 }
 
 /// A last part without a name, with the place behind it.
-fn bare_last(alloc: Global, ty: Box<STy>, at: Cursor<'_>) -> Item<'_>
-    ensures { GivesBox field_item result (done (last (bare (ty_of ty.value))) (state_of at.entry)) }
+fn bare_last(ty: STy, at: Cursor<'_>) -> Item<'_>
+    ensures { GivesPart field_item result (done (last (bare (ty_of ty))) (state_of at.entry)) }
 {
-    let last = Last::Bare(Box::into_inner(ty));
-    Ok((Box::new(alloc, FieldOrLast::Last(last))?, at))
+    Ok((FieldOrLast::Last(Last::Bare(ty)), at))
 }
 
 /// A last part that is the name of a declared type, with the place behind it.
-fn abbreviated_last(alloc: Global, name: SWord, at: Cursor<'_>) -> Item<'_>
-    ensures { GivesBox field_item result (done (last (bare (abbr name.span name))) (state_of at.entry)) }
+fn abbreviated_last(name: SWord, at: Cursor<'_>) -> Item<'_>
+    ensures { GivesPart field_item result (done (last (bare (abbr name.span name))) (state_of at.entry)) }
 {
     let span = name.span;
     let last = Last::Bare(STy::Abbr { name, span });
-    Ok((Box::new(alloc, FieldOrLast::Last(last))?, at))
+    Ok((FieldOrLast::Last(last), at))
 }
 
 /// A part with a name, the last one where the tuple ends behind it, with the place behind it.
-fn named_part(alloc: Global, name: SWord, ty: Box<STy>, ends: bool, at: Cursor<'_>) -> Item<'_>
-    ensures { GivesBox field_item result
-        (done (if ends then last (named name (ty_of ty.value)) else one
-        (record { name = name; ty = ty_of ty.value })) (state_of at.entry)) }
+fn named_part(name: SWord, ty: STy, ends: bool, at: Cursor<'_>) -> Item<'_>
+    ensures { GivesPart field_item result
+        (done (if ends then last (named name (ty_of ty)) else one
+        (record { name = name; ty = ty_of ty })) (state_of at.entry)) }
 {
-    let ty = Box::into_inner(ty);
     let part = if ends {
         FieldOrLast::Last(Last::Named(name, ty))
     } else {
         FieldOrLast::Field(SField { name, ty })
     };
-    Ok((Box::new(alloc, part)?, at))
+    Ok((part, at))
 }
 
 #[cycle(types)]
 fn next_field(alloc: Global, at: Cursor<'_>, later: bool, nesting: u32) -> Item<'_>
     requires { nesting ≤ 1001 }
-    ensures { GivesBox field_item result (read limited (fields_item later nesting) (state_of at.entry)) }
-{
-    next_field_step(alloc, at, later, nesting)
-}
-
-#[cycle(types)]
-fn next_field_step(alloc: Global, at: Cursor<'_>, later: bool, nesting: u32) -> Item<'_>
-    requires { nesting ≤ 1001 }
-    ensures { GivesBox field_item result
-        (reads_step limited (read limited) (fields_item later nesting) (state_of at.entry)) }
+    ensures { GivesPart field_item result (read limited (fields_item later nesting) (state_of at.entry)) }
 {
     let (first, next) = next_token(at)?;
     match &first.kind {
@@ -367,9 +349,9 @@ fn next_field_step(alloc: Global, at: Cursor<'_>, later: bool, nesting: u32) -> 
             field_behind_word(alloc, name, next, later, nesting)
         }
         _ => {
-            let (last, at) = boxed_type(alloc, at, later, nesting)?;
+            let (last, at) = read_type(alloc, at, later, nesting)?;
             let at = take_mark(at, Mark::ParenClose)?;
-            bare_last(alloc, last, at)
+            bare_last(last, at)
         }
     }
 }
@@ -383,18 +365,18 @@ fn field_behind_word(
     nesting: u32,
 ) -> Item<'_>
     requires { nesting ≤ 1000 }
-    ensures { GivesBox field_item result
+    ensures { GivesPart field_item result
         (behind_move limited (read limited) (delta_item_word later nesting name.word) (name.span ∷ [])
         (state_of at.entry)) }
 {
     let (first, next) = next_token(at)?;
     match first.kind {
         Kind::Mark(Mark::Colon) => {
-            let (ty, at) = boxed_type(alloc, next, later, nesting)?;
+            let (ty, at) = read_type(alloc, next, later, nesting)?;
             let (ends, at) = field_rest(at)?;
-            named_part(alloc, name, ty, ends, at)
+            named_part(name, ty, ends, at)
         }
-        Kind::Mark(Mark::ParenClose) => abbreviated_last(alloc, name, next),
+        Kind::Mark(Mark::ParenClose) => abbreviated_last(name, next),
         _ => Err(syntax(at.rest.len())),
     }
 }

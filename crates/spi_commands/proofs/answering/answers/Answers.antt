@@ -2,7 +2,7 @@ use Rattle.spi_commands.proofs.AnswerCommands.{answered_on, answered_whole, answ
 use Rattle.spi_commands.proofs.answering.answers.Goals as goal
 
 pub on_tokens-requires-clause-tokens : goal.on_tokens-requires-clause-tokens
-on_tokens-requires-clause-tokens g c = rw (c.deref.ensures.value, c.deref-in-Lexed.ensures.value) (rw c.in-Lexed.is at c.requires.text)
+on_tokens-requires-clause-tokens g c = rw c.deref.ensures.value (rw c.in-Lexed.is at c.requires.text)
 
 pub returns-in-Lexed-clause-answers : goal.returns-in-Lexed-clause-answers
 returns-in-Lexed-clause-answers g c =

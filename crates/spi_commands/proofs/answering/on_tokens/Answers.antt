@@ -12,7 +12,7 @@ pub returns-in-Bench-clause-answers : goal.returns-in-Bench-clause-answers
 returns-in-Bench-clause-answers g c = answered_as c.args.command Bench c.args.bytes.now _ c.benched.result c.in-Bench.is c.benched.ensures.ok c.benched.ensures.err
 
 pub read_tokens-requires-clause-few : goal.read_tokens-requires-clause-few
-read_tokens-requires-clause-few g c = few_lexed c.args.bytes.now c.args.tokens.now c.requires.tokens
+read_tokens-requires-clause-few g c = few_lexed c.args.bytes.now c.args.tokens.items c.requires.tokens
 
 pub on_file-requires-clause-over : goal.on_file-requires-clause-over
 on_file-requires-clause-over g c = (c.requires.reads, c.in_default.not-Narrate, c.in_default.not-Bench)

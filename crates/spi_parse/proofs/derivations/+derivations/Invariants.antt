@@ -2,10 +2,7 @@ use Rattle.std.proofs.Common.{◌+◌, ◌-◌, ◌*◌}
 use Rattle.spi_parse.proofs.derivations.+derivations.Given as goal
 
 abbrev pub decreases-boxed_derivation : goal.decreases-boxed_derivation
-decreases-boxed_derivation l = 20 * (1001 - l.nesting) + 2
-
-abbrev pub decreases-derivation_step : goal.decreases-derivation_step
-decreases-derivation_step l = 20 * (1001 - l.nesting) + 1
+decreases-boxed_derivation l = 20 * (1001 - l.nesting) + 1
 
 abbrev pub decreases-read_one : goal.decreases-read_one
 decreases-read_one l = 20 * (1001 - l.nesting) + 0

@@ -12,6 +12,45 @@ use Rattle.spi_parse.proofs.Readers.{read_is_step, takes_some}
 use Rattle.spi_parse.proofs.Lists.{msgs_law, msgs_take}
 use Rattle.spi_parse.proofs.messages.+messages.Goals as goal
 
+pub message_of-returns-in_err-accept-in-Word : goal.message_of-returns-in_err-accept-in-Word
+message_of-returns-in_err-accept-in-Word t c = rw read_is_step (grind (arith, common_steps))
+
+pub message_of-returns-in_err-fits-in-Word : goal.message_of-returns-in_err-fits-in-Word
+message_of-returns-in_err-fits-in-Word t c = rw read_is_step (grind (arith, common_steps))
+
+pub message_of-returns-in_err-fits-in-Mark-ParenOpen : goal.message_of-returns-in_err-fits-in-Mark-ParenOpen
+message_of-returns-in_err-fits-in-Mark-ParenOpen t c = rw read_is_step (grind (arith, common_steps))
+
+pub message_of-returns-in_err-fits-in-Mark-BraceOpen : goal.message_of-returns-in_err-fits-in-Mark-BraceOpen
+message_of-returns-in_err-fits-in-Mark-BraceOpen t c = rw read_is_step (grind (arith, common_steps))
+
+pub message_of-returns-in_err-accept-in-Mark-NumberSign : goal.message_of-returns-in_err-accept-in-Mark-NumberSign
+message_of-returns-in_err-accept-in-Mark-NumberSign t c = rw read_is_step (grind (arith, common_steps))
+
+pub message_of-returns-in_err-fits-in-Mark-NumberSign : goal.message_of-returns-in_err-fits-in-Mark-NumberSign
+message_of-returns-in_err-fits-in-Mark-NumberSign t c = rw read_is_step (grind (arith, common_steps))
+
+pub message_of-returns-in_err-fits-in-Reserved-Inl : goal.message_of-returns-in_err-fits-in-Reserved-Inl
+message_of-returns-in_err-fits-in-Reserved-Inl t c = rw read_is_step (grind (arith, common_steps))
+
+pub message_of-returns-in_err-fits-in-Reserved-Inr : goal.message_of-returns-in_err-fits-in-Reserved-Inr
+message_of-returns-in_err-fits-in-Reserved-Inr t c = rw read_is_step (grind (arith, common_steps))
+
+pub message_of-returns-in_err-accept-in-Reserved-Hash : goal.message_of-returns-in_err-accept-in-Reserved-Hash
+message_of-returns-in_err-accept-in-Reserved-Hash t c = rw read_is_step (grind (arith, common_steps))
+
+pub message_of-returns-in_err-fits-in-Reserved-Hash : goal.message_of-returns-in_err-fits-in-Reserved-Hash
+message_of-returns-in_err-fits-in-Reserved-Hash t c = rw read_is_step (grind (arith, common_steps))
+
+pub message_of-returns-in_ok-fits-in-Reserved-Inl : goal.message_of-returns-in_ok-fits-in-Reserved-Inl
+message_of-returns-in_ok-fits-in-Reserved-Inl t c = rw read_is_step (grind (arith, common_steps))
+
+pub message_of-returns-in_ok-fits-in-Reserved-Inr : goal.message_of-returns-in_ok-fits-in-Reserved-Inr
+message_of-returns-in_ok-fits-in-Reserved-Inr t c = rw read_is_step (grind (arith, common_steps))
+
+pub message_of-returns-in_default : goal.message_of-returns-in_default
+message_of-returns-in_default t c = rw read_is_step (grind (arith, common_steps))
+
 pub next_message-returns-in_default : goal.next_message-returns-in_default
 next_message-returns-in_default t c = rw read_is_step (grind (arith, common_steps))
 
@@ -23,8 +62,8 @@ more_messages-items-smaller t c =
 pub more_messages-items-preserved : goal.more_messages-items-preserved
 more_messages-items-preserved t c =
     let e = rw c.in-Some.is at c.in_ok-item.ensures in
-    rw (c.in_ok-push-in-Some.ensures.items, c.into_inner.ensures, map_push msg_of c.items.more.items c.in-Some.part.value)
-    (goes_on (read limited (msgs_item c.args.node.later c.args.node.numbered c.args.node.nesting)) (read limited (msgs c.args.node.later c.args.node.numbered c.args.node.nesting)) (msgs_law c.args.node.later c.args.node.numbered c.args.node.nesting) (map msg_of c.items.more.items) (msg_of c.in-Some.part.value) (state_of c.items.at) (state_of c.in_ok-item.after) _ e c.items.invariant)
+    rw (c.in_ok-push-in-Some.ensures.items, map_push msg_of c.items.more.items c.in-Some.part)
+    (goes_on (read limited (msgs_item c.args.node.later c.args.node.numbered c.args.node.nesting)) (read limited (msgs c.args.node.later c.args.node.numbered c.args.node.nesting)) (msgs_law c.args.node.later c.args.node.numbered c.args.node.nesting) (map msg_of c.items.more.items) (msg_of c.in-Some.part) (state_of c.items.at) (state_of c.in_ok-item.after) _ e c.items.invariant)
 
 pub more_messages-returns-in_err-item : goal.more_messages-returns-in_err-item
 more_messages-returns-in_err-item t c =

@@ -8,8 +8,8 @@ use Rattle.spi_parse.proofs.messages.+messages.Given as goal
 abbrev pub decreases-boxed_message : goal.decreases-boxed_message
 decreases-boxed_message l = 8 * (1001 - l.node.nesting) + 3
 
-abbrev pub decreases-message_step : goal.decreases-message_step
-decreases-message_step l = 8 * (1001 - l.node.nesting) + 2
+abbrev pub decreases-message_of : goal.decreases-message_of
+decreases-message_of l = 8 * (1001 - l.node.nesting) + 2
 
 abbrev pub decreases-read_enc : goal.decreases-read_enc
 decreases-read_enc l = 8 * (1001 - l.node.nesting) + 0

@@ -18,7 +18,7 @@ read_fields-items-smaller t c =
 
 pub read_fields-items-preserved : goal.read_fields-items-preserved
 read_fields-items-preserved t c =
-    let e = rw (← c.into_inner.ensures, c.in-Field.is) at c.in_ok-item.ensures in
+    let e = rw c.in-Field.is at c.in_ok-item.ensures in
     rw (c.in_ok-push-in-Field.ensures.items, map_push field_of c.items.more.items c.in-Field.part)
     (goes_on (read limited (fields_item c.args.later c.args.nesting)) (read limited (fields c.args.later c.args.nesting)) (fields_law c.args.later c.args.nesting) (map field_of c.items.more.items) (field_of c.in-Field.part) (state_of c.items.at) (state_of c.in_ok-item.after) _ e c.items.invariant)
 
@@ -29,5 +29,5 @@ read_fields-returns-in_err-item t c =
 
 pub read_fields-returns-in-Last : goal.read_fields-returns-in-Last
 read_fields-returns-in-Last t c =
-    let e = rw (← c.into_inner.ensures, c.in-Last.is) at c.in_ok-item.ensures in
+    let e = rw c.in-Last.is at c.in_ok-item.ensures in
     rw c.in_ok-boxed_last-in-Last.ensures (is_done (read limited (fields_item c.args.later c.args.nesting)) (read limited (fields c.args.later c.args.nesting)) (fields_law c.args.later c.args.nesting) (map field_of c.items.more.items) (last_of c.in-Last.last) (state_of c.items.at) (state_of c.in_ok-item.after) _ e c.items.invariant)

@@ -8,8 +8,8 @@ use Rattle.spi_parse.proofs.types.+types.Given as goal
 abbrev pub decreases-boxed_type : goal.decreases-boxed_type
 decreases-boxed_type l = 20 * (1001 - l.nesting) + 5
 
-abbrev pub decreases-type_step : goal.decreases-type_step
-decreases-type_step l = 20 * (1001 - l.nesting) + 4
+abbrev pub decreases-read_type : goal.decreases-read_type
+decreases-read_type l = 20 * (1001 - l.nesting) + 4
 
 abbrev pub decreases-read_key : goal.decreases-read_key
 decreases-read_key l = 20 * (1001 - l.nesting) + 0
@@ -34,9 +34,6 @@ decreases-read_fields l = 20 * (1001 - l.nesting) + 9
 
 abbrev pub decreases-next_field : goal.decreases-next_field
 decreases-next_field l = 20 * (1001 - l.nesting) + 8
-
-abbrev pub decreases-next_field_step : goal.decreases-next_field_step
-decreases-next_field_step l = 20 * (1001 - l.nesting) + 7
 
 abbrev pub decreases-field_behind_word : goal.decreases-field_behind_word
 decreases-field_behind_word l = 20 * (1001 - l.nesting) + 6
