@@ -1,4 +1,5 @@
 use Rattle.std.proofs.Common.{rules, arith, ◌≡◌, ◌≤◌, ℕ, Bool, true, false, List, Option, Some, Result, map, take, drop, ◌-◌, ◌∷◌, [], get_or, length, ap, subst, ◌∙◌}
+use Rattle.std.proofs.lemmas.Grind.{common_steps}
 use Rattle.std.specs.Global.{Box}
 use Rattle.spi_lex.specs.declared.token.Kind.TheVariants as K
 use Rattle.spi_lex.specs.declared.token.Token.{Token}
@@ -28,6 +29,33 @@ by_rule : (later : Bool) (nesting : ℕ) (start : Cursor) (first : Token) (w sho
 by_rule later nesting start first w shown o b r some is kind copied arity writes fits gives =
     let step = rule_is_first later nesting start.end start.rest.now first w o b some is kind (ap (arity_of later) copied ∙ arity) (ap writes_effect copied ∙ writes) fits in
     rw read_is_step (subst (BoxRead r) step gives)
+
+pub boxed_derivation-returns-in_default : goal.boxed_derivation-returns-in_default
+boxed_derivation-returns-in_default t c = rw read_is_step (grind (arith, common_steps))
+
+pub boxed_derivation-returns-in_err-fits-in-Leaf : goal.boxed_derivation-returns-in_err-fits-in-Leaf
+boxed_derivation-returns-in_err-fits-in-Leaf t c = rw read_is_step (grind (arith, common_steps))
+
+pub boxed_derivation-returns-in_err-fits-in-One : goal.boxed_derivation-returns-in_err-fits-in-One
+boxed_derivation-returns-in_err-fits-in-One t c = rw read_is_step (grind (arith, common_steps))
+
+pub boxed_derivation-returns-in_err-fits-in-Two : goal.boxed_derivation-returns-in_err-fits-in-Two
+boxed_derivation-returns-in_err-fits-in-Two t c = rw read_is_step (grind (arith, common_steps))
+
+pub boxed_derivation-returns-in_err-fits-in-Three : goal.boxed_derivation-returns-in_err-fits-in-Three
+boxed_derivation-returns-in_err-fits-in-Three t c = rw read_is_step (grind (arith, common_steps))
+
+pub boxed_derivation-returns-in_err-fits-in-Sub : goal.boxed_derivation-returns-in_err-fits-in-Sub
+boxed_derivation-returns-in_err-fits-in-Sub t c = rw read_is_step (grind (arith, common_steps))
+
+pub boxed_derivation-returns-in-NoRule : goal.boxed_derivation-returns-in-NoRule
+boxed_derivation-returns-in-NoRule t c = rw read_is_step (grind (arith, common_steps))
+
+pub boxed_derivation-returns-in_ok-leaf-in-Leaf : goal.boxed_derivation-returns-in_ok-leaf-in-Leaf
+boxed_derivation-returns-in_ok-leaf-in-Leaf t c = rw read_is_step (grind (arith, common_steps))
+
+pub boxed_derivation-returns-in_default-kind : goal.boxed_derivation-returns-in_default-kind
+boxed_derivation-returns-in_default-kind t c = rw read_is_step (grind (arith, common_steps))
 
 pub boxed_derivation-returns-in_ok-fits-in-One : goal.boxed_derivation-returns-in_ok-fits-in-One
 boxed_derivation-returns-in_ok-fits-in-One t c =

@@ -1,4 +1,5 @@
 use Rattle.std.proofs.Common.{arith, map}
+use Rattle.std.proofs.lemmas.Grind.{common_steps}
 use Rattle.std.proofs.lemmas.List.{length-map, map_push}
 use Rattle.std.proofs.lemmas.Result.{err_from_is_err_and}
 use Rattle.spi_parse.specs.Tokens.{tok}
@@ -7,9 +8,33 @@ use Rattle.spi_parse.specs.Reading.{read, limited}
 use Rattle.spi_parse.proofs.Fronts.{goes_on, is_done, gives_up}
 use Rattle.spi_tree.specs.Views.{field_of, last_of}
 use Rattle.spi_parse.specs.Table.{fields, fields_item}
-use Rattle.spi_parse.proofs.Readers.{takes_some}
+use Rattle.spi_parse.proofs.Readers.{read_is_step, takes_some}
 use Rattle.spi_parse.proofs.Lists.{fields_law, fields_take}
 use Rattle.spi_parse.proofs.types.+types.Goals as goal
+
+pub next_field-returns-in_err-fits-in-Word : goal.next_field-returns-in_err-fits-in-Word
+next_field-returns-in_err-fits-in-Word t c = rw read_is_step (grind (arith, common_steps))
+
+pub read_type-returns-in_err-fits-in-Word : goal.read_type-returns-in_err-fits-in-Word
+read_type-returns-in_err-fits-in-Word t c = rw read_is_step (grind (arith, common_steps))
+
+pub read_type-returns-in_err-fits-in-Reserved-Un : goal.read_type-returns-in_err-fits-in-Reserved-Un
+read_type-returns-in_err-fits-in-Reserved-Un t c = rw read_is_step (grind (arith, common_steps))
+
+pub read_type-returns-in_err-fits-in-Reserved-Key : goal.read_type-returns-in_err-fits-in-Reserved-Key
+read_type-returns-in_err-fits-in-Reserved-Key t c = rw read_is_step (grind (arith, common_steps))
+
+pub read_type-returns-in_err-fits-in-Reserved-Nonce : goal.read_type-returns-in_err-fits-in-Reserved-Nonce
+read_type-returns-in_err-fits-in-Reserved-Nonce t c = rw read_is_step (grind (arith, common_steps))
+
+pub read_type-returns-in_err-fits-in-Mark-ParenOpen : goal.read_type-returns-in_err-fits-in-Mark-ParenOpen
+read_type-returns-in_err-fits-in-Mark-ParenOpen t c = rw read_is_step (grind (arith, common_steps))
+
+pub read_type-returns-in_ok-fits-in-Reserved-Key : goal.read_type-returns-in_ok-fits-in-Reserved-Key
+read_type-returns-in_ok-fits-in-Reserved-Key t c = rw read_is_step (grind (arith, common_steps))
+
+pub read_type-returns-in_default : goal.read_type-returns-in_default
+read_type-returns-in_default t c = rw read_is_step (grind (arith, common_steps))
 
 pub read_fields-items-smaller : goal.read_fields-items-smaller
 read_fields-items-smaller t c =
