@@ -46,15 +46,12 @@ pub fn made(alloc: Global, status: Status, output: &[u8]) -> Result<Answer, Stop
     })
 }
 
-/// A refusal with this line.
-pub fn refused_with(line: Vec<u8>) -> Answer
-    ensures status { result.status ≡ Status.Refused }
-    ensures output { result.output.items ≡ line.items }
+/// This status with these bytes.
+pub fn answer_with(status: Status, output: Vec<u8>) -> Answer
+    ensures status { result.status ≡ status }
+    ensures output { result.output.items ≡ output.items }
 {
-    Answer {
-        status: Status::Refused,
-        output: line,
-    }
+    Answer { status, output }
 }
 
 /// The refusal with this cause.
@@ -67,10 +64,7 @@ pub fn refusal(alloc: Global, bytes: &[u8], r: &Refusal) -> Result<Answer, Stop>
     ensures err { OnErr result (result ≡ Err Stop.NoMemory) }
 {
     let output = refusal_line(alloc, bytes, r)?;
-    Ok(Answer {
-        status: Status::Refused,
-        output,
-    })
+    Ok(answer_with(Status::Refused, output))
 }
 
 /// The line of that refusal.

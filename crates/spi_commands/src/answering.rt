@@ -6,7 +6,7 @@ ghost use Rattle.spi_commands.specs.Asked.{AreNumbersKnown, is_play};
 ghost use Rattle.spi_commands.specs.Reading.{IsRead, IsText, GivesText, HasTokens};
 ghost use Rattle.spi_commands.specs.Run.{IsAnswered};
 
-use crate::answer::{Answer, Stop, refused_with};
+use crate::answer::{Answer, Stop, answer_with};
 use crate::asked::Command;
 use crate::bench::benched;
 use crate::canonical::shown;
@@ -47,7 +47,7 @@ pub fn answers(
 {
     match text {
         Text::Lexed { bytes, tokens } => on_tokens(alloc, command, &bytes, tokens, players),
-        Text::Refused(line) => Ok(refused_with(line)),
+        Text::Refused(line) => Ok(answer_with(Status::Refused, line)),
     }
 }
 

@@ -10,7 +10,7 @@ ghost use Rattle.spi_commands.specs.Ran.{IsRan};
 ghost use Rattle.spi_commands.specs.Knowing.{IsDecided, KnowsTo};
 
 use crate::NoMemory;
-use crate::answer::{Answer, Stop, refused_count, refused_with};
+use crate::answer::{Answer, Stop, answer_with, refused_count};
 use crate::certificate::{show_known, show_unknown};
 use crate::schedule::{Ran, Replay, TALKED, Talks, replay_of};
 use crate::status::Status;
@@ -28,7 +28,7 @@ pub fn known(alloc: Global, bytes: &[u8], file: &File, name: u32) -> Result<Answ
 {
     match replay_of(alloc, bytes, file, true)? {
         Ran::Through(replay) => known_after(alloc, bytes, file, replay, name),
-        Ran::Refused(line) => Ok(refused_with(line)),
+        Ran::Refused(line) => Ok(answer_with(Status::Refused, line)),
     }
 }
 

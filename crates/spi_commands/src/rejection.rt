@@ -8,7 +8,7 @@ ghost use Rattle.spi_report.specs.Fault.{fault_text};
 ghost use Rattle.spi_commands.specs.NoLine.{IsNo, IsVerdict};
 ghost use Rattle.spi_commands.specs.Reading.{IsRead};
 
-use crate::answer::{Answer, Stop, made};
+use crate::answer::{Answer, Stop, answer_with, made};
 use crate::status::Status;
 use spi_fault::{Fault, explain};
 use spi_infer::infer;
@@ -57,8 +57,5 @@ pub fn fault_line(alloc: Global, bytes: &[u8], file: &File, fault: &Fault) -> Re
 {
     let lines = Lines::of(alloc, bytes)?;
     let output = no_fault(alloc, file, &lines, fault)?;
-    Ok(Answer {
-        status: Status::No,
-        output,
-    })
+    Ok(answer_with(Status::No, output))
 }

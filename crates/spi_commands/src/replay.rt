@@ -6,7 +6,7 @@ ghost use Rattle.spi_scope.specs.Files.{meant};
 ghost use Rattle.spi_commands.specs.Reading.{IsRead};
 ghost use Rattle.spi_commands.specs.Replaying.{ReplaysTo, AreEventsJudged, IsReplayText};
 
-use crate::answer::{Answer, Stop, refused_with};
+use crate::answer::{Answer, Stop, answer_with};
 use crate::schedule::{Ran, replay_of};
 use crate::status::Status;
 use spi_report::{events, first_unpaid};
@@ -24,7 +24,7 @@ pub fn replayed(alloc: Global, bytes: &[u8], file: &File) -> Result<Answer, Stop
 {
     match replay_of(alloc, bytes, file, false)? {
         Ran::Through(replay) => judged(alloc, file, &replay.events),
-        Ran::Refused(line) => Ok(refused_with(line)),
+        Ran::Refused(line) => Ok(answer_with(Status::Refused, line)),
     }
 }
 

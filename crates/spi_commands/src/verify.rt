@@ -9,7 +9,7 @@ ghost use Rattle.spi_audit.specs.Audit.{IsWrongAt, LeavesUnpaid};
 ghost use Rattle.spi_commands.specs.Verifying.{VerifiesTo, IsUnprovedLine};
 ghost use Rattle.spi_commands.specs.Reading.{IsRead};
 
-use crate::answer::{Answer, Stop, made, missing};
+use crate::answer::{Answer, Stop, answer_with, made, missing};
 use crate::rejection::fault_line;
 use crate::status::Status;
 use spi_audit::{Audited, audit, one_audit};
@@ -62,10 +62,7 @@ fn wrong(alloc: Global, bytes: &[u8], file: &File, index: u32) -> Result<Answer,
 {
     let lines = Lines::of(alloc, bytes)?;
     let output = wrong_step(alloc, file, &lines, index)?;
-    Ok(Answer {
-        status: Status::No,
-        output,
-    })
+    Ok(answer_with(Status::No, output))
 }
 
 /// The line of an effect that the derivation leaves unpaid.

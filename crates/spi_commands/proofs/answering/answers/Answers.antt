@@ -16,4 +16,4 @@ returns-in-Lexed-clause-err g c = answered_memory c.args.command _ _ _ c.on_toke
 
 pub returns-in-Refused-clause-answers : goal.returns-in-Refused-clause-answers
 returns-in-Refused-clause-answers g c =
-    rw c.in-Refused.is (λ bytes h. unlexed_answer c.args.command c.requires.reads bytes c.in-Refused.line.items _ _ _ c.refused_with.ensures.status c.refused_with.ensures.output h)
+    rw c.in-Refused.is (λ bytes h. unlexed_answer c.args.command c.requires.reads bytes c.in-Refused.line.items _ _ _ c.answer_with.ensures.status c.answer_with.ensures.output h)

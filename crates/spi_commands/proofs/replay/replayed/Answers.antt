@@ -15,5 +15,5 @@ returns-in-Through-clause-ok c =
 
 pub returns-in-Refused-clause-ok : goal.returns-in-Refused-clause-ok
 returns-in-Refused-clause-ok c =
-    refused c.args.bytes.now c.in-Refused.line.items c.refused_with.result.output.items c.refused_with.result.status
-    (subst (λ (r : Ran). IsRan c.args.bytes.now (meant c.args.file.now) false r) c.in-Refused.is c.in_ok-replay.ensures.ok) c.refused_with.ensures.status c.refused_with.ensures.output
+    refused c.args.bytes.now c.in-Refused.line.items c.answer_with.result.output.items c.answer_with.result.status
+    (subst (λ (r : Ran). IsRan c.args.bytes.now (meant c.args.file.now) false r) c.in-Refused.is c.in_ok-replay.ensures.ok) c.answer_with.ensures.status c.answer_with.ensures.output
