@@ -6,4 +6,4 @@ pub read_tokens-requires-clause-few : goal.read_tokens-requires-clause-few
 read_tokens-requires-clause-few c =
     let few = few_tokens c.in-Ok.tokens.items (length c.args.bytes.now) c.in-Ok.ensures.spans in
     let low = c.requires in
-    rw c.deref.ensures.value (omega arith)
+    omega arith
