@@ -1,5 +1,5 @@
 // What a bench asks its judge: whether the shared types are in order, and the least effect of a part.
-ghost use Rattle.std.specs.Prelude.{◌≡◌, ◌↔◌, ◌+◌, ◌<◌, ◌≤◌, ◌++◌, ◌∷◌, ℕ, [], true, length, map, All, IfOk, OnOk, IsTrue};
+ghost use Rattle.std.specs.Prelude.{◌≡◌, ◌↔◌, ◌+◌, ◌<◌, ◌≤◌, ◌++◌, ◌∷◌, [], true, length, map, All, IfOk, OnOk, IsTrue};
 ghost use Rattle.spi_term.specs.Spelling.{HasFewTy};
 ghost use Rattle.spi_term.specs.Term.{process_size};
 ghost use Rattle.spi_term.specs.View.{ty};

@@ -1,5 +1,5 @@
 // Parts under their names, in the slots of a table.
-ghost use Rattle.std.specs.Prelude.{◌≡◌, ◌↔◌, ◌+◌, ◌<◌, ◌≤◌, ◌^◌, ◌++◌, ◌∷◌, ℕ, [], List, Option, None, Some, length, IfOk, IfErr, IfSome, IfNone, OnOk, OnErr, IsTrue, IsNone, slice_get, slice_set};
+ghost use Rattle.std.specs.Prelude.{◌≡◌, ◌+◌, ◌<◌, ◌^◌, ◌++◌, ◌∷◌, [], Option, None, Some, length, IfOk, IfErr, OnOk, OnErr};
 ghost use Rattle.std.specs.Str.{bytes_eq};
 ghost use Rattle.indexmap.specs.IndexMap.{get, IsUnchanged, Updates};
 ghost use Rattle.spi_term.specs.Term.{process_size};

@@ -1,5 +1,5 @@
 // The slots of a bench, with what is counted over them.
-ghost use Rattle.std.specs.Prelude.{◌≡◌, ◌↔◌, ◌+◌, ◌<◌, ◌≤◌, ◌^◌, ◌++◌, ◌∷◌, ℕ, [], Option, None, Some, length, IfOk, IfErr, OnOk, OnErr, IsTrue, slice_get, slice_set};
+ghost use Rattle.std.specs.Prelude.{◌≡◌, ◌↔◌, ◌+◌, ◌<◌, ◌^◌, ◌++◌, ◌∷◌, [], Option, None, Some, length, IfOk, OnOk, OnErr, IsTrue, slice_get, slice_set};
 ghost use Rattle.spi_bench.specs.Sums.{slot_in, of_least, total_in, shared_in, AreSums};
 ghost use Rattle.spi_bench.specs.Sums as S;
 ghost use Rattle.spi_bench.specs.Slots.{HaveNoneTwice, IsPadded};

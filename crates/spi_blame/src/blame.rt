@@ -1,6 +1,6 @@
 // The first part of a message that lacks what typing asks of it.
 
-ghost use Rattle.std.specs.Prelude.{◌≡◌, ℕ, IfOk, IfSome, IfNone, IsTrue, ◌↔◌, List, [], ◌∷◌, reverse, Some};
+ghost use Rattle.std.specs.Prelude.{◌≡◌, IfOk, IfSome, IfNone, IsTrue, ◌↔◌, [], ◌∷◌, reverse, Some};
 ghost use Rattle.spi_term.specs.Term.{name, key, Ty as Sort};
 ghost use Rattle.spi_term.specs.View.{message, ty};
 ghost use Rattle.spi_rules.specs.Environment.{Env as Names};

@@ -11,7 +11,6 @@ use crate::own::Own;
 use spi_count::{Keys, NoMemory, Sum, add_atom, add_type, take_atom, take_type};
 use spi_intern::{AtomId, MsgId, Store, TyId};
 use spi_term::{Form, Node};
-use std::alloc::Global;
 
 /// The effect under a form that binds the name `scope`, or that and the next one.
 pub fn after_binder(scope: u32, sum: Sum) -> Option<Sum>

@@ -1,7 +1,6 @@
 // The numbers of a form's messages and types: each is looked up once.
 ghost use Rattle.std.specs.Prelude.{IfOk, IfSome};
 ghost use Rattle.std.specs.Option.{option_map};
-ghost use Rattle.spi_term.specs.Term as Term;
 ghost use Rattle.spi_term.specs.View.{message, ty as type_of, shape_of};
 ghost use Rattle.spi_message.specs.Judging.{IsKept};
 ghost use Rattle.spi_message.specs.Tested.{NumbersMessage, NumbersType};
@@ -85,10 +84,7 @@ pub fn terms_of(alloc: Global, judge: &mut Judge, node: &Node) -> Result<Terms, 
         Form::Send { channel, datum } => {
             numbers(alloc, judge, Some(channel), Some(datum), None, None)
         }
-        Form::Recv { channel, ty, .. } => {
-            numbers(alloc, judge, Some(channel), None, Some(ty), None)
-        }
-        Form::Serve { channel, ty, .. } => {
+        Form::Recv { channel, ty, .. } | Form::Serve { channel, ty, .. } => {
             numbers(alloc, judge, Some(channel), None, Some(ty), None)
         }
         Form::Split {
@@ -99,18 +95,11 @@ pub fn terms_of(alloc: Global, judge: &mut Judge, node: &Node) -> Result<Terms, 
         } => numbers(alloc, judge, Some(whole), None, Some(first), Some(second)),
         Form::Select {
             whole,
-            first,
-            equal,
-            second,
+            first: t,
+            equal: n,
+            second: u,
             ..
-        } => numbers(
-            alloc,
-            judge,
-            Some(whole),
-            Some(equal),
-            Some(first),
-            Some(second),
-        ),
+        } => numbers(alloc, judge, Some(whole), Some(n), Some(t), Some(u)),
         Form::Branch {
             whole,
             left,
@@ -128,7 +117,6 @@ pub fn terms_of(alloc: Global, judge: &mut Judge, node: &Node) -> Result<Terms, 
         Form::EndMany { label, .. } => numbers(alloc, judge, Some(label), None, None, None),
         Form::Cast { whole, ty, .. } => { numbers(alloc, judge, Some(whole), None, Some(ty), None) }
         Form::Fresh { ty, .. } => numbers(alloc, judge, None, None, Some(ty), None),
-        Form::Par { .. } => numbers(alloc, judge, None, None, None, None),
-        Form::Stop => numbers(alloc, judge, None, None, None, None),
+        Form::Par { .. } | Form::Stop => numbers(alloc, judge, None, None, None, None),
     }
 }

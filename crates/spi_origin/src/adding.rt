@@ -1,7 +1,7 @@
 // Whether a node's form adds an atom, and whether an atom stands in an effect.
 
 ghost use Rattle.std.specs.Prelude.{◌≡◌, ◌<◌, ℕ, Option, IsTrue, ◌↔◌, is_some};
-ghost use Rattle.spi_count.specs.Keeping.{with_keys, IsKeyed};
+ghost use Rattle.spi_count.specs.Keeping.{with_keys};
 ghost use Rattle.spi_count.specs.Sums.{kind_of_atom, name_bound, key_of};
 ghost use Rattle.spi_count.specs.declared.keys.Keys as Declared;
 ghost use Rattle.spi_infer.specs.Own.{IsOwnOf, CountsFor};

@@ -4,7 +4,6 @@ ghost use Rattle.std.specs.Prelude.{◌≡◌, ◌<◌, ℕ, IfOk, OnOk};
 ghost use Rattle.spi_count.specs.Keeping.{with_keys, AreKept, GrowsTo};
 ghost use Rattle.spi_count.specs.Sums.{name_bound, key_of};
 ghost use Rattle.spi_infer.specs.Accounts.{IsNoted};
-ghost use Rattle.spi_message.specs.Judging.{IsKept};
 ghost use Rattle.spi_origin.specs.Listing.{AreAll};
 ghost use Rattle.spi_origin.specs.Origins.{IsOriginIn};
 ghost use Rattle.spi_rules.specs.Blocking.{Blocks};

@@ -1,12 +1,11 @@
 // Backward over the nodes, and what is gathered on the way.
 
-ghost use Rattle.std.specs.Prelude.{◌≡◌, ◌<◌, ◌+◌, ℕ, List, Option, OnOk, IfOk, length, true, [], ◌∷◌};
-ghost use Rattle.spi_count.specs.Keeping.{with_keys, IsKeyed};
+ghost use Rattle.std.specs.Prelude.{◌≡◌, ◌<◌, ℕ, List, Option, OnOk, IfOk, length, true, [], ◌∷◌};
+ghost use Rattle.spi_count.specs.Keeping.{with_keys};
 ghost use Rattle.spi_count.specs.declared.keys.Keys as Keys;
 ghost use Rattle.spi_infer.specs.Accounts.{IsNoted, Tops};
 ghost use Rattle.spi_infer.specs.Own.{FormNotedAs};
 ghost use Rattle.spi_infer.specs.Passes.{Note, act, is_stuck};
-ghost use Rattle.spi_intern.specs.Meaning.{NoneTwice};
 ghost use Rattle.spi_intern.specs.declared.store.Store as Stores;
 ghost use Rattle.spi_origin.specs.Gathering.{aim_of, HasAimKey, keeps, picks, joined_lists, at_top, with_node, top_sum, picked, MarkedStacks};
 ghost use Rattle.spi_rules.specs.Blocking.{NodeOf};
