@@ -1,8 +1,7 @@
 -- ASCII bytes at the front that continue a name.
-use Rattle.std.proofs.Common.{◌≡◌, ℕ, suc, ◌+◌, ◌-◌, ◌<◌, ◌≤◌, Bool, true, ◌||◌, ◌==◌, inl, inr, List, [], ◌∷◌, ◌++◌, length, drop, get_or, refl, sym, ◌∙◌, ap, subst, arith, leb}
-use Rattle.std.proofs.lemmas.Bool.{cases_Bool, cases_lt, cond-true, cond-false, agree_below_at, and_parts, and_from, leb-true, eqb-true, or_cases}
-use Rattle.std.proofs.lemmas.List.Sums.{prefix_len-le-length, prefix_len_passes}
-use Rattle.std.proofs.lemmas.Str.{encode_ascii, IsCharBoundary-start, IsCharBoundary-after_ascii}
+use Rattle.std.proofs.Common.{◌≡◌, ℕ, suc, ◌+◌, ◌-◌, ◌<◌, Bool, true, ◌||◌, ◌==◌, inl, inr, List, [], ◌∷◌, ◌++◌, length, drop, get_or, refl, sym, ◌∙◌, ap, subst, arith, leb}
+use Rattle.std.proofs.lemmas.Bool.{cases_Bool, cond-true, cond-false, agree_below_at, and_parts, and_from, leb-true, eqb-true, or_cases}
+use Rattle.std.proofs.lemmas.Str.{encode_ascii, IsCharBoundary-after_ascii}
 use Rattle.std.specs.List.{prefix_len}
 use Rattle.std.specs.Char.{is_ascii_alphabetic, is_ascii_alphanumeric}
 use Rattle.std.specs.Int.{is_in_range}
@@ -51,21 +50,7 @@ plain_passes (b ∷ bs) = elim (cases_Bool (is_plain b)) [
       (sym (cond-false (is_plain b) (1 + prefix_len is_plain bs) 0 isnt)) (passes_none (b ∷ bs))
 ]
 
--- and a character begins behind them
-pub plain_cut : (text : List ℕ) → IsUtf8 text → IsCharBoundary text (prefix_len is_plain text)
-plain_cut text u =
-    let n : ℕ = prefix_len is_plain text in
-    let le : n ≤ length text = prefix_len-le-length is_plain text in
-    elim (cases_lt 0 n) [
-      | inl some ↦
-          let last : get_or text (n - 1) 0 < 128 = plain_ascii (get_or text (n - 1) 0) (prefix_len_passes is_plain text (n - 1) 0 (omega arith)) in
-          let back : n - 1 + 1 ≡ n = omega arith in
-          subst (IsCharBoundary text) back (IsCharBoundary-after_ascii text (n - 1) u (omega arith) last)
-      | inr none ↦
-          let zero_is : 0 ≡ n = omega arith in
-          subst (IsCharBoundary text) zero_is (IsCharBoundary-start text u)
-    ]
-
+-- and they stop
 pub plain_stops : (text : List ℕ) → StopsPlain (drop (prefix_len is_plain text) text)
 plain_stops [] b bs e = absurd (cc)
 plain_stops (c ∷ cs) b bs e = elim (cases_Bool (is_plain c)) [
