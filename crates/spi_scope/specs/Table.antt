@@ -1,9 +1,10 @@
--- What the table of names keeps: at each spelling the number of the innermost name, and with each name in scope the
--- number that it hides and the chain of spellings from it on.
-use Rattle.std.specs.Prelude.{◌≡◌, ℕ, ◌^◌, ◌<◌, List, [], ◌∷◌, ◌++◌, length, map, reverse, Some, ⊤, slice_get}
+-- What the table of names keeps: at each spelling the number of the innermost name, if any, and with each name in scope
+-- the slot of its spelling, the number that it hides and the chain of spellings from it on.
+use Rattle.std.specs.Prelude.{◌≡◌, ℕ, ◌^◌, ◌<◌, List, [], ◌∷◌, ◌++◌, length, map, reverse, Some, ⊤, slice_get, Option}
 use Rattle.std.specs.Str.{bytes_eq}
 use Rattle.std.specs.Coded.{Coded, coded_ℕ, coded_list, coded×, code_by}
-use Rattle.indexmap.specs.IndexMap.{IndexMap, get_by}
+use Rattle.std.specs.Option.{option_flatten}
+use Rattle.indexmap.specs.IndexMap.{IndexMap, get_by, keys}
 use denote.Ref.{Bor}
 use Rattle.spi_scope.specs.Scope.{Word, Names, number_of}
 use Rattle.spi_scope.specs.declared.names.Held.{Held}
@@ -38,9 +39,19 @@ abbrev pub Hide : List Held → Type 0
 Hide [] = ⊤
 Hide (e ∷ es) = (e.before ≡ number_of (spellings es) e.word.now) × Hide es
 
-pub record KeepsTable {S : Type 0} (m : IndexMap (Bor (List ℕ)) ℕ S) (es : List Held) : Type 0 where
-  pub finds : (w : Word) → get_by (λ k. bytes_eq w k.now) m ≡ number_of (spellings (reverse es)) w
+-- the spellings in the table, each in its slot
+abbrev pub slots : {V S : Type 0} → IndexMap (Bor (List ℕ)) V S → Names
+slots m = map (λ k. k.now) (keys m)
+
+-- each name has the slot of its spelling
+abbrev pub HaveSlots : Names → List Held → Type 0
+HaveSlots ws [] = ⊤
+HaveSlots ws (e ∷ es) = (slice_get ws e.slot ≡ Some e.word.now) × HaveSlots ws es
+
+pub record KeepsTable {S : Type 0} (m : IndexMap (Bor (List ℕ)) (Option ℕ) S) (es : List Held) : Type 0 where
+  pub finds : (w : Word) → option_flatten (get_by (λ k. bytes_eq w k.now) m) ≡ number_of (spellings (reverse es)) w
   pub hide : Hide (reverse es)
+  pub have_slots : HaveSlots (slots m) (reverse es)
   pub few : length es < 2 ^ 32
 
 -- each name begins the chain of its spelling and those outside it

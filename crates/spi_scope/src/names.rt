@@ -1,6 +1,9 @@
-//! The names in scope, with a table of the innermost name of each spelling.
+//! The names in scope, with a table of the innermost name of each spelling. A spelling stays in the table: where none of
+//! its names is in scope it has no number there.
 
 ghost use Rattle.std.specs.Prelude.{◌≡◌, ◌+◌, ◌-◌, ◌^◌, ◌<◌, drop, [], ◌∷◌, reverse, length, IfOk, OnOk, OnErr, IfSome};
+ghost use Rattle.std.specs.Str.{bytes_eq};
+ghost use Rattle.indexmap.specs.IndexMap.{IsUnique, index_map_len, with_value_at};
 ghost use Rattle.spi_scope.specs.Scope.{number_of, outer_names};
 ghost use Rattle.spi_scope.specs.Table.{KeepsTable, IsPushed, IsPopped, top, with_names, noting};
 
@@ -11,10 +14,12 @@ use spi_text::Text;
 use std::alloc::{AllocError, Global};
 use std::marker::Model;
 
-/// A name in scope: its spelling, the number that it hides, and the number of the chain that it begins.
+/// A name in scope: its spelling and the slot of that in the table, the number that it hides, and the number of the
+/// chain that it begins.
 #[derive(Drop)]
 pub struct Held<'t> {
     pub word: &'t str,
+    pub slot: usize,
     pub before: Option<u32>,
     pub chain: u32,
 }
@@ -29,9 +34,19 @@ fn top_chain(hidden: &[Held]) -> u32
     }
 }
 
+/// The spelling in this slot has another number, or none.
+fn set_number<'t>(innermost: &mut IndexMap<&'t str, Option<u32>>, slot: usize, number: Option<u32>)
+    requires { slot < index_map_len innermost.old }
+    ensures after { innermost.new ≡ with_value_at innermost.old slot number }
+    ensures unique { IsUnique (λ x y. bytes_eq x.now y.now) innermost.old }
+{
+    let (_, stored) = innermost.pair_mut(slot);
+    *stored = number;
+}
+
 /// One more name in scope.
 fn enter<'t>(
-    innermost: &mut IndexMap<&'t str, u32>,
+    innermost: &mut IndexMap<&'t str, Option<u32>>,
     hidden: &mut Vec<Held<'t>>,
     word: &'t str,
     chain: u32,
@@ -43,38 +58,31 @@ fn enter<'t>(
     ensures err { OnErr result (hidden.new.items ≡ hidden.old.items) }
 {
     let number = hidden.len() as u32;
-    let before = innermost.get(&word).copied();
-    hidden.push(Held {
+    let (slot, old) = innermost.insert_full(word, Some(number))?;
+    let before = old.flatten();
+    match hidden.push(Held {
         word,
+        slot,
         before,
         chain,
-    })?;
-    match innermost.insert(word, number) {
-        Ok(_) => Ok(()),
+    }) {
+        Ok(()) => Ok(()),
         Err(failed) => {
-            hidden.pop();
+            set_number(innermost, slot, before);
             Err(AllocError::from(failed))
         }
     }
 }
 
 /// The innermost name goes out of scope.
-fn leave<'t>(innermost: &mut IndexMap<&'t str, u32>, hidden: &mut Vec<Held<'t>>)
+fn leave<'t>(innermost: &mut IndexMap<&'t str, Option<u32>>, hidden: &mut Vec<Held<'t>>)
     requires keeps { KeepsTable innermost.old hidden.old.items }
     requires some { 0 < length hidden.old.items }
     ensures keeps { KeepsTable innermost.new hidden.new.items }
     ensures out { IsPopped hidden.old.items hidden.new.items }
 {
-    if let Some(Held { word, before, .. }) = hidden.pop() {
-        match before {
-            Some(number) => match innermost.insert(word, number) {
-                Ok(_) => {}
-                Err(_) => unreachable!(),
-            },
-            None => {
-                innermost.swap_remove(&word);
-            }
-        }
+    if let Some(Held { slot, before, .. }) = hidden.pop() {
+        set_number(innermost, slot, before);
     }
 }
 
@@ -82,7 +90,7 @@ fn leave<'t>(innermost: &mut IndexMap<&'t str, u32>, hidden: &mut Vec<Held<'t>>)
 /// node that was noted.
 #[derive(Drop)]
 pub struct Names<'t> {
-    innermost: IndexMap<&'t str, u32>,
+    innermost: IndexMap<&'t str, Option<u32>>,
     hidden: Vec<Held<'t>>,
     trail: Trail<'t>,
 }
@@ -126,7 +134,7 @@ impl<'t> Names<'t> {
         ensures number { result ≡ number_of self.now.names word.now }
         ensures below { IfSome result (λ n. n < length self.now.names) }
     {
-        self.innermost.get(&word).copied()
+        self.innermost.get(&word).copied().flatten()
     }
 
     /// One more name in scope. There is no room for 2 ^ 32 names, and so many don't come: each has a token of its own, and a

@@ -1,16 +1,20 @@
-use Rattle.std.proofs.Common.{◌∙◌, arith, refl}
-use Rattle.spi_scope.proofs.Tables.{entered}
+use Rattle.std.proofs.Common.{◌∙◌, ap, arith}
+use Rattle.std.specs.Option.{option_flatten}
+use Rattle.spi_scope.specs.declared.names.Held.{Held}
+use Rattle.spi_scope.proofs.Tables.{entered, left}
 use Rattle.spi_scope.proofs.names.enter.Goals as goal
 
 pub returns-in-Ok-clause-keeps : goal.returns-in-Ok-clause-keeps
 returns-in-Ok-clause-keeps c =
-    rw c.in_ok-push.ensures.items
-    (entered c.args.innermost.now c.insert.new.self c.args.hidden.now.items (record { word = c.args.word; before = c.copied-before.result; chain = c.args.chain }) c.len-number.result c.requires.keeps c.in-Ok.ensures.updates (c.copied-before.ensures ∙ c.get.ensures.value ∙ c.requires.keeps.finds c.args.word.now) (omega arith) c.requires.room)
+    let e = c.in_ok-slot.ensures in
+    let k = c.requires.keeps in
+    rw c.in-Ok.ensures.items
+    (entered c.args.innermost.now c.insert_full.new.self c.args.hidden.now.items (record { word = c.args.word; slot = c.in_ok-slot.slot; before = c.flatten-before.result; chain = c.args.chain }) c.len-number.result k e.updates e.entries e.index (c.flatten-before.ensures ∙ ap option_flatten e.old ∙ k.finds c.args.word.now) (omega arith) c.requires.room)
 
-pub returns-in-Ok-clause-ok : goal.returns-in-Ok-clause-ok
-returns-in-Ok-clause-ok c = record {
-  held = record { word = c.args.word; before = c.copied-before.result; chain = c.args.chain };
-  word = refl;
-  its_chain = refl;
-  is = c.in_ok-push.ensures.items;
-}
+pub returns-in-Err-clause-keeps : goal.returns-in-Err-clause-keeps
+returns-in-Err-clause-keeps c =
+    let e = c.in_ok-slot.ensures in
+    let k = c.requires.keeps in
+    let held : Held = record { word = c.args.word; slot = c.in_ok-slot.slot; before = c.flatten-before.result; chain = c.args.chain } in
+    let more = entered c.args.innermost.now c.insert_full.new.self c.args.hidden.now.items held c.len-number.result k e.updates e.entries e.index (c.flatten-before.ensures ∙ ap option_flatten e.old ∙ k.finds c.args.word.now) (omega arith) c.requires.room in
+    rw (c.set_number.ensures.after, c.in-Err.ensures.items) (left c.insert_full.new.self c.args.hidden.now.items held c.set_number.ensures.unique more)
