@@ -14,6 +14,7 @@ mod messages;
 mod names;
 mod processes;
 mod resolution;
+mod room;
 mod schedules;
 mod scope;
 mod trail;

@@ -27,6 +27,7 @@ use crate::file::File;
 use crate::marks::Marks;
 use crate::names::Names;
 use crate::processes::read_process;
+use crate::room::nodes_of;
 use crate::schedules::read_steps;
 use crate::scope::Scope;
 use indexmap::IndexMap;
@@ -77,10 +78,10 @@ fn read_part<'t>(
     ensures few { OnOk result (scope.new.count ≤ 100000) }
 {
     let count = scope.count;
-    let mut arena = Arena {
-        nodes: Vec::new(alloc),
-        places: Vec::new(alloc),
-    };
+    let room = nodes_of(p);
+    let nodes = Vec::with_capacity(alloc, room)?;
+    let places = Vec::with_capacity(alloc, room)?;
+    let mut arena = Arena { nodes, places };
     read_process(alloc, scope, &mut arena, p)?;
     let Arena { nodes, places } = arena;
     let process = laid_out(scope, count, nodes, p);
