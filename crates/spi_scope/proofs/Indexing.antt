@@ -4,7 +4,7 @@ use Rattle.std.specs.Prelude.{Option, Some, None, IfSome}
 use Rattle.std.specs.Str.{bytes_eq}
 use Rattle.std.proofs.lemmas.Bool.{cases_lt, lt-ltb, le-ltb}
 use Rattle.spi_tree.specs.Trees as t
-use Rattle.spi_term.specs.Term.{Message, bound, name, unit, pair, in_left, in_right, enc, hash, ends, checks, many, Effect, Ty, un, unit_ty, pair_ty, sum_ty, key, nonce, Sends, Prefix, Recvs, Serves, Splits, Selects, Decrypts, Checks, Begins, Ends, EndManys, Casts, Freshes, Fork, Branches, Pars, Process, leaf, prefix, fork}
+use Rattle.spi_term.specs.Term.{Message, bound, name, pair, in_left, in_right, enc, hash, ends, checks, many, Effect, Ty, un, unit_ty, pair_ty, sum_ty, key, nonce, Sends, Prefix, Recvs, Serves, Splits, Selects, Decrypts, Checks, Begins, Ends, EndManys, Casts, Freshes, Fork, Branches, Pars, Process, leaf, prefix, fork}
 use Rattle.spi_term.specs.Substitution.{effect_map, ty_map, leaf_map}
 use Rattle.spi_term.specs.Names.{MessageOver, OfAtom, OfEffect, OfTy, TyOver, ProcessOver}
 use Rattle.spi_term.specs.Spelling.{index_message, indexed, flat, numbered, SpellsProcess}

@@ -3,7 +3,7 @@ use Rattle.std.proofs.Common.{◌≡◌, ℕ, suc, ◌+◌, ◌-◌, ◌≤◌, 
 use Rattle.std.specs.Prelude.{Ok}
 use Rattle.spi_text.specs.declared.lines.Span.{Span}
 use Rattle.spi_tree.specs.Trees as t
-use Rattle.spi_term.specs.Term.{Message, message_size, Ty}
+use Rattle.spi_term.specs.Term.{Message, message_size, pair, Ty}
 use Rattle.spi_term.specs.Spelling.{ty_nodes, stopped}
 use Rattle.spi_scope.specs.Scope.{Names}
 use Rattle.spi_scope.specs.Meaning.{nested, nested_types, message_in, messages_in, type_in, fields_in, last_in, behind}
@@ -23,20 +23,20 @@ pub nested_nodes : (a : Message) (ms : List Message) → message_size (nested a 
 nested_nodes a [] = omega arith
 nested_nodes a (m ∷ ms) = omega (arith, nested_nodes m ms)
 
-pub message_tuple : (base spent c : ℕ) (xs : Names) (s : Span) (a b : t.Msg) (ms : t.Msgs) (n0 n1 n2 n3 : ℕ) (x y : Message) (zs : List Message) (whole : Message)
+pub message_tuple : (base spent c : ℕ) (xs : Names) (s : Span) (a b : t.Msg) (ms : t.Msgs) (n0 n1 n2 n3 : ℕ) (x y rest whole : Message)
     → Counted message_size x n1 (run (message_points xs a) c) c spent (message_in base xs a)
     → n0 ≡ stopped (n1 + 1)
     → Counted message_size y n2 (run (message_points xs b) c) c n0 (message_in base xs b)
-    → Counted row_nodes zs n3 (run (messages_points xs ms) c) c n2 (messages_in base xs ms)
-    → (n3 ≤ 1000 → whole ≡ nested x (y ∷ zs))
+    → Counted (λ (_ : Message). row_nodes (messages_in base xs ms)) rest n3 (run (messages_points xs ms) c) c n2 (nested y (messages_in base xs ms))
+    → whole ≡ pair x rest
     → Counted message_size whole n3 (run (message_points xs (t.tuple s a b ms)) c) c spent (message_in base xs (t.tuple s a b ms))
-message_tuple base spent c xs s a b ms n0 n1 n2 n3 x y zs whole h1 e h2 h3 w = (
+message_tuple base spent c xs s a b ms n0 n1 n2 n3 x y rest whole h1 e h2 h3 w = (
   ap (λ r. after r (run (message_points xs b ⨾ messages_points xs ms))) h1.0 ∙ ap (λ r. after r (run (messages_points xs ms))) h2.0 ∙ h3.0,
   omega (arith, h1.1, e, h2.1, h3.1, nested_nodes (message_in base xs a) (message_in base xs b ∷ messages_in base xs ms)),
   λ few.
       let l2 : n2 ≤ 1000 = omega (arith, few, h3.1) in
       let l1 : n1 ≤ 1000 = omega (arith, l2, h2.1, e) in
-      w few ∙ ap (λ r. nested r (y ∷ zs)) (h1.2 l1) ∙ ap (λ r. nested (message_in base xs a) (r ∷ zs)) (h2.2 l2) ∙ ap (λ r. nested (message_in base xs a) (message_in base xs b ∷ r)) (h3.2 few),
+      w ∙ ap (λ r. pair r rest) (h1.2 l1) ∙ ap (pair (message_in base xs a)) (h3.2 few ∙ ap (λ r. nested r (messages_in base xs ms)) (h2.2 l2)),
 )
 
 pub nested_types_nodes : (bs : List Ty) (z : Ty) → ty_nodes (nested_types bs z) ≡ type_row_nodes bs + ty_nodes z

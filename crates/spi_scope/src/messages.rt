@@ -67,11 +67,18 @@ pub fn nest(
     ensures { IfOk result
         (λ m. total ≤ 1000 → message m ≡ nested (message first) (message second ∷ map message more.items)) }
 {
+    let rest = nest_small(alloc, total, second, more)?;
+    paired(alloc, first, rest)
+}
+
+/// A message and what is behind it, nested to the right where there are few enough nodes.
+fn nest_small(alloc: Global, total: u64, first: Msg, more: Vec<Msg>) -> Result<Msg, AllocError>
+    ensures { IfOk result (λ m. total ≤ 1000 → message m ≡ nested (message first) (map message more.items)) }
+{
     if total > 1000 {
         return Ok(Msg::Unit);
     }
-    let rest = nest_rest(alloc, second, more)?;
-    paired(alloc, first, rest)
+    nest_rest(alloc, first, more)
 }
 
 /// The pair of two messages.
@@ -130,8 +137,8 @@ pub fn read_message(
         } => {
             let (first, total) = read_message(alloc, scope, base, spent, first)?;
             let (next, total) = read_message(alloc, scope, base, total.saturating_add(1), second)?;
-            let (more, total) = read_messages(alloc, scope, base, total, more)?;
-            let whole = nest(alloc, total, first, next, more)?;
+            let (rest, total) = read_more(alloc, scope, base, total, more, next)?;
+            let whole = paired(alloc, first, rest)?;
             Ok((whole, total))
         }
         SMsg::Inl { part, .. } => {
@@ -156,6 +163,38 @@ pub fn read_message(
             Ok((Msg::Hash(part), total))
         }
         SMsg::Num { .. } => Ok((Msg::Unit, spent.saturating_add(1))),
+    }
+}
+
+/// The second component of a tuple with those behind it, nested to the right, with the nodes of these and of the pairs
+/// counted on.
+#[cycle(messages)]
+fn read_more(
+    alloc: Global,
+    scope: &Scope,
+    base: u32,
+    spent: u64,
+    more: &[SMsg],
+    next: Msg,
+) -> Result<(Msg, u64), ScopeFault>
+    ensures { CountsOn message
+        (λ _. row_nodes (messages_in base scope.now.held.names (msgs_of_list (map msg_of more.now)))) result
+        (run (messages_points scope.now.held.names (msgs_of_list (map msg_of more.now))) scope.now.count)
+        scope.now.count spent
+        (nested (message next) (messages_in base scope.now.held.names (msgs_of_list (map msg_of more.now)))) }
+{
+    match more {
+        [] => Ok((next, spent)),
+        [last] => {
+            let (last, total) = read_message(alloc, scope, base, spent.saturating_add(1), last)?;
+            let whole = paired(alloc, next, last)?;
+            Ok((whole, total))
+        }
+        _ => {
+            let (read, total) = read_messages(alloc, scope, base, spent, more)?;
+            let whole = nest_small(alloc, total, next, read)?;
+            Ok((whole, total))
+        }
     }
 }
 

@@ -4,17 +4,17 @@ use Rattle.spi_tree.specs.Views.{msg_of}
 use Rattle.spi_tree.specs.declared.tree.SMsg.{SMsg}
 use Rattle.spi_tree.specs.declared.tree.SMsg.TheVariants.{Tuple}
 use Rattle.spi_tree.proofs.Rows.{tuple_is}
-use Rattle.spi_term.specs.Term.{message_size}
+use Rattle.spi_term.specs.Term.{Message, message_size}
 use Rattle.spi_term.specs.View.{message}
-use Rattle.spi_scope.specs.Meaning.{message_in, messages_in}
+use Rattle.spi_scope.specs.Meaning.{nested, message_in, messages_in}
 use Rattle.spi_scope.specs.Points.{message_points, messages_points}
 use Rattle.spi_scope.specs.Gives.{run}
 use Rattle.spi_scope.specs.State.{row_nodes}
 use Rattle.spi_scope.proofs.Tuples.{Counted, message_tuple}
 use Rattle.spi_scope.proofs.messages.+messages.Goals as goal
 
-pub read_message-returns-in_err-more-in-Tuple : goal.read_message-returns-in_err-more-in-Tuple
-read_message-returns-in_err-more-in-Tuple t c =
+pub read_message-returns-in_err-rest-in-Tuple : goal.read_message-returns-in_err-rest-in-Tuple
+read_message-returns-in_err-rest-in-Tuple t c =
     let w = c.in-Tuple in
     let e : c.args.m.now ≡ Tuple w.first w.second w.more w.span = w.is in
     rw (ap msg_of e ∙ tuple_is w.first w.second w.more w.span) (search rules)
@@ -27,11 +27,11 @@ read_message-returns-in_ok-whole-in-Tuple t c =
     let k = c.args.scope.now.count in
     let f = c.in_ok-first-in-Tuple in
     let g = c.in_ok-next-in-Tuple in
-    let h = c.in_ok-more-in-Tuple in
+    let h = c.in_ok-rest-in-Tuple in
     let h1 = subst (λ (x : SMsg). Counted message_size (message f.first) f.total (run (message_points xs (msg_of x)) k) k c.args.spent (message_in c.args.base xs (msg_of x))) c.deref.ensures f.ensures in
     let h2 = subst (λ (x : SMsg). Counted message_size (message g.next) g.total (run (message_points xs (msg_of x)) k) k c.saturating_add-in-Tuple.result (message_in c.args.base xs (msg_of x))) c.deref-in-Tuple.ensures g.ensures in
-    let h3 = subst (λ (x : List SMsg). Counted row_nodes (map message h.more.items) h.total (run (messages_points xs (msgs_of_list (map msg_of x))) k) k g.total (messages_in c.args.base xs (msgs_of_list (map msg_of x)))) c.deref-in-Tuple-2.ensures.value h.ensures in
+    let h3 = subst (λ (x : List SMsg). let ms = messages_in c.args.base xs (msgs_of_list (map msg_of x)) in Counted (λ (_ : Message). row_nodes ms) (message h.rest) h.total (run (messages_points xs (msgs_of_list (map msg_of x))) k) k g.total (nested (message g.next) ms)) c.deref-in-Tuple-2.ensures.value h.ensures in
     rw (ap msg_of e ∙ tuple_is w.first w.second w.more w.span)
     (message_tuple c.args.base c.args.spent k xs w.span (msg_of w.first.value) (msg_of w.second.value) (msgs_of_list (map msg_of w.more.items)) c.saturating_add-in-Tuple.result f.total g.total h.total
-    (message f.first) (message g.next) (map message h.more.items) (message c.in_ok-whole-in-Tuple.whole)
+    (message f.first) (message g.next) (message h.rest) (message c.in_ok-whole-in-Tuple.whole)
     h1 c.saturating_add-in-Tuple.ensures h2 h3 c.in_ok-whole-in-Tuple.ensures)
