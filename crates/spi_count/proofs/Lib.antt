@@ -2,4 +2,5 @@ pub mod Standing
 pub mod Summed
 pub mod Read
 pub mod Kept
+pub mod Merging
 pub mod Below

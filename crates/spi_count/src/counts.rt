@@ -111,7 +111,7 @@ impl Counts {
         }
     }
 
-    /// Takes the least key out, with its count.
+    /// Takes the greatest key out, with its count.
     pub fn take(&mut self) -> Option<(u64, u64)>
         ensures some { IfSome result
             (λ p. (0 < p.1) × (count_of self.old.counts p.0 ≡ p.1)
@@ -119,7 +119,7 @@ impl Counts {
         ensures none { IfNone result (IsNothing self.old.counts × IsNothing self.new.counts) }
         ensures less { IfSome result (λ p. btree_map_len self.new.counts < btree_map_len self.old.counts) }
     {
-        self.counts.pop_first()
+        self.counts.pop_last()
     }
 
     /// Takes the greatest key out, with its count, where it is at least this one.
@@ -148,9 +148,9 @@ impl Counts {
         ensures { OnOk result
             ((q : ℕ) → count_of self.new.counts q ≡ count_of self.old.counts q + count_of other.counts q) }
     {
-        let mut rest = other;
-        while let Some((key, by)) = rest.take() {
-            self.raise(key, by)?;
+        let Counts { counts } = other;
+        for (key, by) in counts.iter() {
+            self.raise(*key, *by)?;
         }
         Ok(())
     }
