@@ -4,6 +4,7 @@ ghost use Rattle.std.specs.Prelude.{◌≡◌, List, [], Some, IfOk, OnOk, ◌<�
 ghost use Rattle.spi_term.specs.Term.{Message};
 ghost use Rattle.spi_term.specs.View.{message};
 ghost use Rattle.spi_intern.specs.Table.{KeepsAll, AllDiffer};
+ghost use Rattle.spi_intern.specs.Hashed.{mixed};
 ghost use Rattle.spi_intern.specs.Messages.{message_added, interned, Says, said};
 
 use crate::NoMemory;
@@ -35,6 +36,13 @@ impl MsgId {
     }
 }
 
+/// Two numbers as one, for a table. Those below 2 ^ 32 stay apart.
+pub(crate) fn mixed(first: usize, second: usize) -> usize
+    ensures { result ≡ mixed first second }
+{
+    first.wrapping_mul(4_294_967_296).wrapping_add(second)
+}
+
 /// The outermost constructor of a message, with the numbers of its parts.
 #[derive(Clone, Copy, PartialEq, Eq)]
 pub enum MsgPart {
@@ -62,8 +70,7 @@ impl Hash for MsgPart {
             MsgPart::Bound(number) | MsgPart::Name(number) => number.hash(state),
             MsgPart::Unit => {}
             MsgPart::Pair(first, second) | MsgPart::Enc(first, second) => {
-                first.hash(state);
-                second.hash(state);
+                mixed(first.place, second.place).hash(state)
             }
             MsgPart::Inl(part) | MsgPart::Inr(part) | MsgPart::Hash(part) => part.hash(state),
         }

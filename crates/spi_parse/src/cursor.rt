@@ -61,7 +61,7 @@ pub fn accept(allowed: bool, left: usize) -> Result<(), Stop>
 pub fn copy_word(alloc: Global, word: &Text) -> Result<Text, NoMemory>
     ensures { IfOk result (λ text. text ≡ word.now) }
 {
-    Text::of(alloc, word.as_str())
+    word.copy(alloc)
 }
 
 /// The same word, with where it stands.
