@@ -2,7 +2,7 @@
 //! schedule or plays one, prints the file or upgrades it, and writes the answer to standard output. `load` reads no file.
 #![tactic(auto)]
 
-use spi_commands::{FirstReady, InTurn, Player, Seeded, Status, run};
+use spi_commands::{Afterwards, FirstReady, InTurn, Player, Seeded, Status, run};
 use spi_io::{StdSink, StdSource, words};
 use std::process::ExitCode;
 
@@ -28,6 +28,7 @@ fn main(rt: HostRuntime) -> ExitCode {
     }
     let status = run(
         alloc,
+        Afterwards::Ends,
         &words,
         &mut StdSource::new(&rt),
         &mut StdSink::new(&rt),

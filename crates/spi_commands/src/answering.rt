@@ -6,6 +6,7 @@ ghost use Rattle.spi_commands.specs.Asked.{AreNumbersKnown, is_play};
 ghost use Rattle.spi_commands.specs.Reading.{IsRead, IsText, GivesText, HasTokens};
 ghost use Rattle.spi_commands.specs.Run.{IsAnswered};
 
+use crate::afterwards::Afterwards;
 use crate::answer::{Answer, Stop, answer_with};
 use crate::asked::Command;
 use crate::bench::benched;
@@ -31,6 +32,7 @@ use std::alloc::Global;
 /// file left them.
 pub fn answers(
     alloc: Global,
+    afterwards: Afterwards,
     command: Command,
     text: Text,
     players: &mut Vec<Box<dyn Player>>,
@@ -46,7 +48,9 @@ pub fn answers(
     ensures err { OnErr result (result ≡ Err Stop.NoMemory) }
 {
     match text {
-        Text::Lexed { bytes, tokens } => on_tokens(alloc, command, &bytes, tokens, players),
+        Text::Lexed { bytes, tokens } => on_tokens(
+            alloc, afterwards, command, &bytes, tokens, players,
+        ),
         Text::Refused(line) => Ok(answer_with(Status::Refused, line)),
     }
 }
@@ -54,6 +58,7 @@ pub fn answers(
 /// What the command answers on these bytes, which have these tokens.
 fn on_tokens(
     alloc: Global,
+    afterwards: Afterwards,
     command: Command,
     bytes: &[u8],
     tokens: Vec<Token>,
@@ -71,8 +76,8 @@ fn on_tokens(
     match command {
         Command::Narrate => narrated(alloc, bytes, &tokens),
         Command::Bench => benched(alloc, bytes, &tokens),
-        _ => match read_tokens(alloc, bytes, tokens) {
-            Ok(file) => on_file(alloc, command, bytes, file, players),
+        _ => match read_tokens(alloc, afterwards, bytes, tokens) {
+            Ok(file) => on_file(alloc, afterwards, command, bytes, file, players),
             Err(cause) => refused_for(alloc, bytes, &cause),
         },
     }
@@ -81,6 +86,7 @@ fn on_tokens(
 /// What the command answers on the file of these bytes.
 fn on_file(
     alloc: Global,
+    afterwards: Afterwards,
     command: Command,
     bytes: &[u8],
     file: File,
@@ -96,14 +102,41 @@ fn on_file(
     ensures players { is_play (Some command) ≡ false → players.new ≡ players.old }
 {
     match command {
-        Command::Check => judged(alloc, bytes, &file),
-        Command::Derive => derived(alloc, bytes, &file),
-        Command::Verify => verified(alloc, bytes, &file),
-        Command::Replay => replayed(alloc, bytes, &file),
-        Command::Play { most, only } => played(alloc, bytes, &file, players, most, only),
-        Command::Print => shown(alloc, bytes, &file),
-        Command::Upgrade => upgraded(alloc, bytes, file),
-        Command::Knows { name } => known(alloc, bytes, &file, name),
+        Command::Upgrade => upgraded(alloc, afterwards, bytes, file),
+        _ => {
+            let answer = over_file(alloc, command, bytes, &file, players);
+            afterwards.let_go(file);
+            answer
+        }
+    }
+}
+
+/// What a command answers that leaves the file of these bytes as it is.
+fn over_file(
+    alloc: Global,
+    command: Command,
+    bytes: &[u8],
+    file: &File,
+    players: &mut Vec<Box<dyn Player>>,
+) -> Result<Answer, Stop>
+    requires sized { length bytes.now ≤ 16_777_216 }
+    requires read { IsRead bytes.now file.now }
+    requires over { GoesOverFile command }
+    requires same { command ≢ Command.Upgrade }
+    requires known { AreNumbersKnown (vec_len players.old) command }
+    ensures answers { IsAnsweredBy command bytes.now
+        (seen_of (λ b. times b) (λ b. way b) players.old.items)
+        (seen_of (λ b. times b) (λ b. way b) players.new.items) result }
+    ensures players { is_play (Some command) ≡ false → players.new ≡ players.old }
+{
+    match command {
+        Command::Check => judged(alloc, bytes, file),
+        Command::Derive => derived(alloc, bytes, file),
+        Command::Verify => verified(alloc, bytes, file),
+        Command::Replay => replayed(alloc, bytes, file),
+        Command::Play { most, only } => played(alloc, bytes, file, players, most, only),
+        Command::Print => shown(alloc, bytes, file),
+        Command::Knows { name } => known(alloc, bytes, file, name),
         _ => unreachable!(),
     }
 }

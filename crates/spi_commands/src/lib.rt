@@ -1,6 +1,7 @@
 //! The commands: from the words of a command line and the bytes of a file to a status and what is written.
 #![tactic(auto)]
 
+mod afterwards;
 mod answer;
 mod answering;
 mod asked;
@@ -27,6 +28,7 @@ mod upgrade;
 mod verify;
 mod words;
 
+pub use afterwards::Afterwards;
 pub use asked::{Command, asked_of};
 pub use players::{FirstReady, InTurn, Seeded};
 pub use reading::{Unread, read};

@@ -8,6 +8,7 @@ ghost use Rattle.spi_commands.specs.Spelled.{IsTreeOf, SpellsFile};
 ghost use Rattle.spi_commands.specs.Reading.{IsRead, IsUnread};
 ghost use Rattle.spi_commands.specs.declared.reading.Unread.TheVariants.{NoMemory};
 
+use crate::afterwards::Afterwards;
 use crate::causes::{out_of_scope, unlexed, unparsed};
 use spi_lex::{Token, lex};
 use spi_parse::{ParseFault, parse};
@@ -41,13 +42,18 @@ pub fn read(alloc: Global, bytes: &[u8]) -> Result<File, Unread>
     ensures unread { IfErr result (λ u. IsUnread bytes.now u) }
 {
     match lex(alloc, bytes) {
-        Ok(tokens) => read_tokens(alloc, bytes, tokens),
+        Ok(tokens) => read_tokens(alloc, Afterwards::GoesOn, bytes, tokens),
         Err(fault) => Err(unlexed(alloc, bytes, fault)),
     }
 }
 
 /// The file that the tokens of the bytes spell. The tokens go as soon as their tree is there.
-pub fn read_tokens(alloc: Global, bytes: &[u8], tokens: Vec<Token>) -> Result<File, Unread>
+pub fn read_tokens(
+    alloc: Global,
+    afterwards: Afterwards,
+    bytes: &[u8],
+    tokens: Vec<Token>,
+) -> Result<File, Unread>
     requires within { length bytes.now ≤ 16_777_216 }
     requires few { length tokens.items ≤ 16_777_216 }
     requires lexed { Lexes bytes.now (Ok tokens.items) }
@@ -59,7 +65,9 @@ pub fn read_tokens(alloc: Global, bytes: &[u8], tokens: Vec<Token>) -> Result<Fi
     match parse(alloc, &tokens, bytes.len() as u32) {
         Ok(tree) => {
             drop(tokens);
-            read_tree(alloc, bytes, &tree)
+            let read = read_tree(alloc, bytes, &tree);
+            afterwards.let_go(tree);
+            read
         }
         Err(ParseFault::Syntax { token }) => Err(unparsed(alloc, 20, bytes, &tokens, token)),
         Err(ParseFault::TooDeep { token }) => Err(unparsed(alloc, 21, bytes, &tokens, token)),

@@ -13,6 +13,7 @@ ghost use Rattle.spi_commands.specs.Playing.{LeavesPlayers};
 ghost use Rattle.spi_commands.specs.Commands.{Promise};
 ghost use Rattle.spi_commands.specs.Run.{Wants, IsAnswered, Ends, Completes, IsUndisturbed, TakesInput};
 
+use crate::afterwards::Afterwards;
 use crate::answer::{Answer, Stop, made};
 use crate::answering::answers;
 use crate::asked::{Command, asked_of};
@@ -33,9 +34,11 @@ use spi_spell::{canonical_reads_back, derivation_joins, schedule_joins};
 use std::alloc::Global;
 
 /// Does what the words ask for: reads a file from the source, writes the answer to the sink, and says how
-/// it ended. The whole output is made first and written last. Only a play asks the players.
+/// it ended. The whole output is made first and written last. Only a play asks the players. Where the process ends
+/// afterwards, what was read is left for it to take along.
 pub fn run<S: Source, K: Sink>(
     alloc: Global,
+    afterwards: Afterwards,
     words: &[String],
     source: &mut S,
     sink: &mut K,
@@ -116,7 +119,7 @@ pub fn run<S: Source, K: Sink>(
     one_file();
     derivable_is_many_safe();
     answers_keep_promises();
-    run_for(alloc, words, source, sink, players)
+    run_for(alloc, afterwards, words, source, sink, players)
 }
 
 /// What a command answers keeps what it promises.
@@ -159,6 +162,7 @@ pub fn refused_is_none()
 /// Does what the words ask for.
 fn run_for<S: Source, K: Sink>(
     alloc: Global,
+    afterwards: Afterwards,
     words: &[String],
     source: &mut S,
     sink: &mut K,
@@ -201,7 +205,7 @@ fn run_for<S: Source, K: Sink>(
     let Ok(command) = asked_of(alloc, words, players.len()) else {
         return Status::NoMemory;
     };
-    match answer_to(alloc, command, source, players) {
+    match answer_to(alloc, afterwards, command, source, players) {
         Ok(answer) => match put_all(sink, &answer.output) {
             Ok(()) => answer.status,
             Err(Put::WriteFault) => Status::WriteFault,
@@ -214,6 +218,7 @@ fn run_for<S: Source, K: Sink>(
 /// What the command asks for, and what is to be written.
 fn answer_to<S: Source>(
     alloc: Global,
+    afterwards: Afterwards,
     command: Option<Command>,
     source: &mut S,
     players: &mut Vec<Box<dyn Player>>,
@@ -246,7 +251,7 @@ fn answer_to<S: Source>(
         None => made(alloc, Status::Usage, USAGE),
         Some(asked) => match asked {
             Command::Load { sessions } => loads(alloc, sessions),
-            _ => answers(alloc, asked, take_text(alloc, source)?, players),
+            _ => answers(alloc, afterwards, asked, take_text(alloc, source)?, players),
         },
     }
 }

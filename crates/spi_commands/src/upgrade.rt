@@ -5,6 +5,7 @@ ghost use Rattle.spi_commands.specs.Upgrading.{IsNewWord, IsRespelled, AreRespel
 ghost use Rattle.spi_commands.specs.Reading.{IsRead};
 
 use crate::NoMemory;
+use crate::afterwards::Afterwards;
 use crate::answer::{Answer, Stop};
 use crate::canonical::shown;
 use spi_scope::File;
@@ -13,14 +14,21 @@ use spi_text::Text;
 use std::alloc::Global;
 
 /// What `upgrade` answers on the file of these bytes.
-pub fn upgraded(alloc: Global, bytes: &[u8], file: File) -> Result<Answer, Stop>
+pub fn upgraded(
+    alloc: Global,
+    afterwards: Afterwards,
+    bytes: &[u8],
+    file: File,
+) -> Result<Answer, Stop>
     requires sized { length bytes.now ≤ 16_777_216 }
     requires read { IsRead bytes.now file }
     ensures ok { IfOk result (λ answer. UpgradesTo bytes.now answer.status answer.output.items) }
     ensures err { OnErr result (result ≡ Err Stop.NoMemory) }
 {
     let file = in_version_2(alloc, file)?;
-    shown(alloc, bytes, &file)
+    let answer = shown(alloc, bytes, &file);
+    afterwards.let_go(file);
+    answer
 }
 
 /// The file that this one is upgraded to.

@@ -1,7 +1,7 @@
 // What the tests stand on: texts and the files that they spell, questions to them with tables of answers, runs of commands
 // over streams in memory, and the one assertion.
 
-use spi_commands::{Player, read, run};
+use spi_commands::{Afterwards, Player, read, run};
 use spi_io::{MemorySink, MemorySource};
 use spi_scope::File;
 use spi_term::{Form, Msg, Process, Ty};
@@ -193,6 +193,13 @@ pub fn run_over(
 ) -> Result<(Vec<u8>, u8), NoMemory> {
     let asked = words_of(alloc, words)?;
     let (mut source, mut sink) = streams;
-    let status = run(alloc, &asked, &mut source, &mut sink, players);
+    let status = run(
+        alloc,
+        Afterwards::GoesOn,
+        &asked,
+        &mut source,
+        &mut sink,
+        players,
+    );
     Ok((sink.bytes().to_vec(alloc)?, status.code()))
 }
