@@ -104,7 +104,7 @@ fn on_file(
     match command {
         Command::Upgrade => upgraded(alloc, afterwards, bytes, file),
         _ => {
-            let answer = over_file(alloc, command, bytes, &file, players);
+            let answer = over_file(alloc, afterwards, command, bytes, &file, players);
             afterwards.let_go(file);
             answer
         }
@@ -114,6 +114,7 @@ fn on_file(
 /// What a command answers that leaves the file of these bytes as it is.
 fn over_file(
     alloc: Global,
+    afterwards: Afterwards,
     command: Command,
     bytes: &[u8],
     file: &File,
@@ -133,7 +134,7 @@ fn over_file(
         Command::Check => judged(alloc, bytes, file),
         Command::Derive => derived(alloc, bytes, file),
         Command::Verify => verified(alloc, bytes, file),
-        Command::Replay => replayed(alloc, bytes, file),
+        Command::Replay => replayed(alloc, afterwards, bytes, file),
         Command::Play { most, only } => played(alloc, bytes, file, players, most, only),
         Command::Print => shown(alloc, bytes, file),
         Command::Knows { name } => known(alloc, bytes, file, name),

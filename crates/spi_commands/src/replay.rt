@@ -6,6 +6,7 @@ ghost use Rattle.spi_scope.specs.Files.{meant};
 ghost use Rattle.spi_commands.specs.Reading.{IsRead};
 ghost use Rattle.spi_commands.specs.Replaying.{ReplaysTo, AreEventsJudged, IsReplayText};
 
+use crate::afterwards::Afterwards;
 use crate::answer::{Answer, Stop, answer_with};
 use crate::schedule::{Ran, replay_of};
 use crate::status::Status;
@@ -16,14 +17,23 @@ use spi_trace::{Pairing, pair_up, paired_is_paid};
 use std::alloc::Global;
 
 /// What `replay` answers on the file of these bytes.
-pub fn replayed(alloc: Global, bytes: &[u8], file: &File) -> Result<Answer, Stop>
+pub fn replayed(
+    alloc: Global,
+    afterwards: Afterwards,
+    bytes: &[u8],
+    file: &File,
+) -> Result<Answer, Stop>
     requires sized { length bytes.now ≤ 16_777_216 }
     requires read { IsRead bytes.now file.now }
     ensures ok { IfOk result (λ answer. ReplaysTo bytes.now answer.status answer.output.items) }
     ensures err { OnErr result (result ≡ Err Stop.NoMemory) }
 {
     match replay_of(alloc, bytes, file, false)? {
-        Ran::Through(replay) => judged(alloc, file, &replay.events),
+        Ran::Through(replay) => {
+            let answer = judged(alloc, file, &replay.events);
+            afterwards.let_go(replay);
+            answer
+        }
         Ran::Refused(line) => Ok(answer_with(Status::Refused, line)),
     }
 }
