@@ -1,9 +1,10 @@
 // Messages with numbers.
 
-ghost use Rattle.std.specs.Prelude.{◌≡◌, List, [], Some, IfOk, OnOk, ◌<◌, ◌^◌, OnErr, slice_get, length};
-ghost use Rattle.spi_term.specs.Term.{Message};
+ghost use Rattle.std.specs.Prelude.{IsTrue, ◌≡◌, List, [], Some, IfOk, IfSome, OnOk, ◌<◌, ◌^◌, OnErr, slice_get, length};
+ghost use Rattle.spi_term.specs.Term.{Message, name};
 ghost use Rattle.spi_term.specs.View.{message};
 ghost use Rattle.spi_intern.specs.Table.{KeepsAll, AllDiffer};
+ghost use Rattle.spi_intern.specs.declared.messages.MsgPart.TheVariants as parts;
 ghost use Rattle.spi_intern.specs.Hashed.{mixed};
 ghost use Rattle.spi_intern.specs.Messages.{message_added, interned, Says, said};
 
@@ -77,10 +78,15 @@ impl Hash for MsgPart {
     }
 }
 
+/// How many names have their numbers noted.
+const NOTED: usize = 65_536;
+
 /// Messages, each with its number. Contracts see them as a list, in the order of the numbers.
 #[derive(Drop)]
 pub struct Messages {
     parts: IndexSet<MsgPart>,
+    /// Where the lowest names may stand among the parts, so that they needn't be looked for.
+    names: Vec<usize>,
 }
 
 impl Model for Messages {
@@ -100,6 +106,16 @@ impl Model for Messages {
     ghost invariant = { IsInterned };
 }
 
+/// Whether it is this name.
+fn is_name(part: MsgPart, x: u32) -> bool
+    ensures { IsTrue result → part ≡ parts.Name x }
+{
+    match part {
+        MsgPart::Name(y) => y == x,
+        _ => false,
+    }
+}
+
 impl Messages {
     /// No messages.
     pub fn new(alloc: Global) -> Messages
@@ -107,6 +123,7 @@ impl Messages {
     {
         Messages {
             parts: IndexSet::new(alloc),
+            names: Vec::new(alloc),
         }
     }
 
@@ -119,8 +136,63 @@ impl Messages {
         ensures kept { KeepsAll self.old self.new }
         ensures distinct { AllDiffer self.new }
     {
+        match part {
+            MsgPart::Name(x) => self.put_name(x),
+            _ => self.put_part(part),
+        }
+    }
+
+    /// The same, looked for among all.
+    fn put_part(&mut self, part: MsgPart) -> Result<MsgId, NoMemory>
+        requires { Says self.old part (said self.old part) }
+        ensures grows { OnOk result (self.new ≡ message_added self.old (said self.old part)) }
+        ensures same { OnErr result (self.new ≡ self.old) }
+        ensures at { IfOk result (λ id. slice_get self.new id.place ≡ Some (said self.old part)) }
+        ensures kept { KeepsAll self.old self.new }
+        ensures distinct { AllDiffer self.new }
+    {
         let (place, _) = self.parts.insert_full(part)?;
         Ok(MsgId { place })
+    }
+
+    /// The number of a name, which is noted where there is room.
+    fn put_name(&mut self, x: u32) -> Result<MsgId, NoMemory>
+        ensures grows { OnOk result (self.new ≡ message_added self.old (name x)) }
+        ensures same { OnErr result (self.new ≡ self.old) }
+        ensures at { IfOk result (λ id. slice_get self.new id.place ≡ Some (name x)) }
+        ensures kept { KeepsAll self.old self.new }
+        ensures distinct { AllDiffer self.new }
+    {
+        if let Some(id) = self.noted(x) {
+            return Ok(id);
+        }
+        let id = self.put_part(MsgPart::Name(x))?;
+        self.note(x, id.place);
+        Ok(id)
+    }
+
+    /// The number of a name, where it stands in the place that was noted.
+    fn noted(&self, x: u32) -> Option<MsgId>
+        ensures some { IfSome result (λ id. slice_get self.now id.place ≡ Some (name x)) }
+        ensures distinct { AllDiffer self.now }
+    {
+        let place = *self.names.get(x as usize)?;
+        let part = self.parts.get_index(place)?;
+        if is_name(*part, x) {
+            Some(MsgId { place })
+        } else {
+            None
+        }
+    }
+
+    /// Notes where a name stands, one of the lowest, as far as there is room.
+    fn note(&mut self, x: u32, place: usize)
+        ensures { self.new ≡ self.old }
+    {
+        let at = x as usize;
+        if at < NOTED && (at < self.names.len() || self.names.resize(at + 1, 0).is_ok()) {
+            self.names[at] = place;
+        }
     }
 
     /// The number of a message. Its parts get numbers first.

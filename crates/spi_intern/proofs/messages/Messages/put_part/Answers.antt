@@ -1,6 +1,6 @@
 use Rattle.spi_intern.proofs.Tables.{is_put}
 use Rattle.spi_intern.proofs.MessageLaws.{part_laws}
-use Rattle.spi_intern.proofs.messages.Messages.put.Goals as goal
+use Rattle.spi_intern.proofs.messages.Messages.put_part.Goals as goal
 
 pub invariant_of-self-2 : goal.invariant_of-self-2
 invariant_of-self-2 c = (is_put part_laws _ _ c.args.self.now c.args.part record { view = c.self.view_is; table = c.self.invariant; says = c.requires; keys = c.in_ok-place.ensures.keys }).table
