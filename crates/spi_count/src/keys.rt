@@ -11,16 +11,9 @@ use spi_term::Msg;
 use std::alloc::{AllocError, Global};
 
 /// The keys of messages that may stand in effects, by their numbers.
+#[derive(Drop)]
 pub struct Keys {
     keys: IndexMap<usize, u64>,
-    ids: IndexMap<usize, MsgId>,
-    ghost held: { (i k : ℕ) → get nat_eq keys i ≡ Some k → place_of_key (get nat_eq ids i) ≡ Some i },
-}
-
-impl Drop for Keys {
-    fn drop(self) {
-        let Keys { keys: _, ids: _ } = self;
-    }
 }
 
 // The least number above the names of a message.
@@ -46,7 +39,6 @@ impl Keys {
     {
         Keys {
             keys: IndexMap::new(alloc),
-            ids: IndexMap::new(alloc),
         }
     }
 
@@ -60,9 +52,12 @@ impl Keys {
     /// The number in this place, where its message has a key.
     pub fn id(&self, place: usize) -> Option<MsgId>
         ensures id { (k : ℕ) → get nat_eq self.now.keys place ≡ Some k → place_of_key result ≡ Some place }
-        ensures kept { result ≡ get nat_eq self.now.ids place }
+        ensures none { get nat_eq self.now.keys place ≡ None → result ≡ None }
     {
-        self.ids.get(&place).copied()
+        match self.keys.get(&place) {
+            Some(_) => Some(MsgId::at(place)),
+            None => None,
+        }
     }
 
     /// Keeps the key of a message. There is no room for 2 ^ 32 messages: a store with so many takes more than 100 GB, so
@@ -79,7 +74,6 @@ impl Keys {
         if place >= 4_294_967_296 || above >= 4_294_967_296 {
             return Err(AllocError);
         }
-        self.ids.insert(place, id)?;
         self.keys
             .insert(place, above * 4_294_967_296 + place as u64)?;
         Ok(())
