@@ -38,11 +38,11 @@ HEAD = re.compile(r"((?:(?:pub|abbrev|unfoldable|pattern|data|record) )+)([^\s:]
 MEMBER = re.compile(r"(?:pub )?([^\s:]+(?: [^\s:]+)*) :")
 USE = re.compile(r"^\s*(?:pub |ghost )*use ([\w.]+?)(?:\.\{([^}]*)\}| as (\w+))?;?$", re.M)
 RUST_USE = re.compile(r"^\s*(?:pub )?use (crate|spi_\w+)((?:::\w+)*)(?:::\{([^}]*)\})?;", re.M | re.S)
-RUST_TYPE = r"(?m)^(?:pub )?(?:struct|enum|trait|type) %s\b"
+RUST_TYPE = r"(?m)^(?:pub(?:\(crate\))? )?(?:struct|enum|trait|type) %s\b"
 LITERAL = re.compile(r'["\d_.]')
 LIBRARY_CONSTRUCTORS = ("suc", "zero", "true", "false", "[]", "◌∷◌", "yes", "no", "refl")
 BUILT_IN = (":", "→", "=", ";", ",", "|", "×", "⊥", "¬", "Type", "Unit", "tt", "where", "record", "elim", "in", "do",
-            "as", "deriving")
+            "as", "deriving", "∥", "∥₁")
 HEADLINE = ("headline", "many_to_one")
 QUOTED = (("yes", r"you read ([\d,]+) definitions, ([\d,]+) lines"), ("theorem", r"rests on ([\d,]+) of them, ([\d,]+) lines"))
 ROW = re.compile(r"\| `([^`]+)` \| ?([^|]*?) ?\|")
