@@ -5,6 +5,7 @@ ghost use Rattle.spi_run.specs.View.{event};
 ghost use Rattle.spi_report.specs.Events.{from_text, event_text, event_line, is_unpaid as is_unpaid_by, first_unpaid as first_unpaid_of, last_text, events_text};
 
 use crate::NoMemory;
+use itoa::Buffer;
 use spi_run::Event;
 use spi_scope::File;
 use spi_show::put_reported;
@@ -13,23 +14,23 @@ use spi_trace::Pairing;
 use std::alloc::Global;
 
 // Appends the number of an event, counted from 1, by its number from 0 on.
-fn put_number(alloc: Global, out: &mut Vec<u8>, k: u64) -> Result<(), NoMemory>
+fn put_number(out: &mut Vec<u8>, k: u64) -> Result<(), NoMemory>
     requires { k + 1 < 2 ^ 64 }
     ensures { OnOk result (out.new.items ≡ out.old.items ++ decimal (k + 1)) }
 {
-    let number = k + 1;
-    out.extend_from_slice(format!(in alloc; "{number}")?.as_bytes())
+    let mut buffer = Buffer::new();
+    out.extend_from_slice(buffer.format(k + 1).as_bytes())
 }
 
 // Appends the begin that pays for an end.
-fn put_from(alloc: Global, out: &mut Vec<u8>, begin: Option<u32>) -> Result<(), NoMemory>
+fn put_from(out: &mut Vec<u8>, begin: Option<u32>) -> Result<(), NoMemory>
     ensures { OnOk result (out.new.items ≡ out.old.items ++ from_text begin) }
 {
     match begin {
         None => out.extend_from_slice(b" unpaid"),
         Some(i) => {
             out.extend_from_slice(b" from ")?;
-            put_number(alloc, out, i as u64)
+            put_number(out, i as u64)
         }
     }
 }
@@ -48,11 +49,11 @@ fn put_event(
         Event::Begin(label) => put_reported(alloc, out, names, b" begin ", label),
         Event::End(label) => {
             put_reported(alloc, out, names, b" end ", label)?;
-            put_from(alloc, out, begin)
+            put_from(out, begin)
         }
         Event::EndMany(label) => {
             put_reported(alloc, out, names, b" endmany ", label)?;
-            put_from(alloc, out, begin)
+            put_from(out, begin)
         }
     }
 }
@@ -69,7 +70,7 @@ fn put_line(
     requires { k + 1 < 2 ^ 64 }
     ensures { OnOk result (out.new.items ≡ out.old.items ++ event_line names.now k (event e.now) begin) }
 {
-    put_number(alloc, out, k as u64)?;
+    put_number(out, k as u64)?;
     put_event(alloc, out, names, e, begin)?;
     out.extend_from_slice(b"\n")
 }
@@ -101,7 +102,7 @@ pub fn first_unpaid(events: &[Event], from: &[Option<u32>]) -> Option<usize>
 }
 
 // Appends the last line.
-fn put_last(alloc: Global, out: &mut Vec<u8>, unpaid: Option<usize>) -> Result<(), NoMemory>
+fn put_last(out: &mut Vec<u8>, unpaid: Option<usize>) -> Result<(), NoMemory>
     requires { IfSome unpaid (λ k. k + 1 < 2 ^ 64) }
     ensures { OnOk result (out.new.items ≡ out.old.items ++ last_text unpaid) }
 {
@@ -109,7 +110,7 @@ fn put_last(alloc: Global, out: &mut Vec<u8>, unpaid: Option<usize>) -> Result<(
         None => out.extend_from_slice(b"paid\n"),
         Some(k) => {
             out.extend_from_slice(b"unpaid at ")?;
-            put_number(alloc, out, k as u64)?;
+            put_number(out, k as u64)?;
             out.extend_from_slice(b"\n")
         }
     }
@@ -130,7 +131,7 @@ pub(crate) fn lines_of(
     for k in 0..events.len() {
         put_line(alloc, &mut out, names, k, &events[k], pairing.from[k])?;
     }
-    put_last(alloc, &mut out, first_unpaid(events, &pairing.from))?;
+    put_last(&mut out, first_unpaid(events, &pairing.from))?;
     Ok(out)
 }
 
