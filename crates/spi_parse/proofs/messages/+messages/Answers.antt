@@ -42,6 +42,9 @@ message_of-returns-in_err-accept-in-Reserved-Hash t c = rw read_is_step (grind (
 pub message_of-returns-in_err-fits-in-Reserved-Hash : goal.message_of-returns-in_err-fits-in-Reserved-Hash
 message_of-returns-in_err-fits-in-Reserved-Hash t c = rw read_is_step (grind (arith, common_steps))
 
+pub message_of-returns-in_ok-fits-in-Mark-BraceOpen : goal.message_of-returns-in_ok-fits-in-Mark-BraceOpen
+message_of-returns-in_ok-fits-in-Mark-BraceOpen t c = rw read_is_step (grind (arith, common_steps))
+
 pub message_of-returns-in_ok-fits-in-Reserved-Inl : goal.message_of-returns-in_ok-fits-in-Reserved-Inl
 message_of-returns-in_ok-fits-in-Reserved-Inl t c = rw read_is_step (grind (arith, common_steps))
 
