@@ -5,13 +5,13 @@ use Rattle.spi_commands.specs.Ran.{IsRan}
 use Rattle.spi_commands.proofs.ReplayAnswers.{judged, refused}
 use Rattle.spi_commands.proofs.replay.replayed.Goals as goal
 
-pub judged-requires : goal.judged-requires
-judged-requires c = rw c.deref.ensures.value (subst (λ (r : Ran). IsRan c.args.bytes.now (meant c.args.file.now) false r) c.in-Through.is c.in_ok-replay.ensures.ok).3
+pub judged-answer-requires : goal.judged-answer-requires
+judged-answer-requires c = rw c.deref.ensures.value (subst (λ (r : Ran). IsRan c.args.bytes.now (meant c.args.file.now) false r) c.in-Through.is c.in_ok-replay.ensures.ok).3
 
 pub returns-in-Through-clause-ok : goal.returns-in-Through-clause-ok
 returns-in-Through-clause-ok c =
-    judged c.args.bytes.now c.args.file.now c.in-Through.replay c.judged.result c.requires.read
-    (subst (λ (r : Ran). IsRan c.args.bytes.now (meant c.args.file.now) false r) c.in-Through.is c.in_ok-replay.ensures.ok) (rw c.deref.ensures.value at c.judged.ensures.ok)
+    judged c.args.bytes.now c.args.file.now c.in-Through.replay c.judged-answer.result c.requires.read
+    (subst (λ (r : Ran). IsRan c.args.bytes.now (meant c.args.file.now) false r) c.in-Through.is c.in_ok-replay.ensures.ok) (rw c.deref.ensures.value at c.judged-answer.ensures.ok)
 
 pub returns-in-Refused-clause-ok : goal.returns-in-Refused-clause-ok
 returns-in-Refused-clause-ok c =
