@@ -1,21 +1,30 @@
 -- The places of a channel, as places change.
-use Rattle.std.proofs.Common.{◌≡◌, ℕ, zero, suc, ◌+◌, ◌<◌, ◌≤◌, Bool, true, false, cond, List, [], ◌∷◌, ◌++◌, length, take, drop, get_or, Option, Some, None, slice_get, slice_set, refl, sym, ap, ◌∙◌, subst, arith, ◌||◌, ◌⊎◌, inl, inr, append-nil}
-use Rattle.std.specs.Prelude.{if◌then◌else◌, filter, nat_lt, Result, Ok, Err}
+use Rattle.std.proofs.Common.{◌≡◌, ℕ, zero, suc, ◌+◌, ◌<◌, ◌≤◌, Bool, true, false, cond, List, [], ◌∷◌, ◌++◌, length, take, drop, get_or, Option, Some, None, slice_get, slice_set, refl, sym, ap, ◌∙◌, subst, arith, add-one, drop-cons, ◌⊎◌, inl, inr}
+use Rattle.std.specs.Prelude.{◌==◌, ◌&&◌, if◌then◌else◌, filter, nat_lt, insert, remove, Result, Ok, Err}
 use Rattle.std.specs.Global.{Vec}
 use Rattle.std.specs.Ordering.{nat_cmp}
 use Rattle.std.specs.List.Sorted.{IsBinarySearchResult}
 use Rattle.std.proofs.lemmas.List.Sorted.{searched}
-use Rattle.std.proofs.lemmas.Bool.{cases_order}
+use Rattle.std.proofs.Math.Bool.{or-false, and-false}
+use Rattle.std.proofs.lemmas.Bool.{cases_order, eqb-true}
 use Rattle.std.proofs.lemmas.Bool.Decides.{nat_tests}
-use Rattle.std.proofs.lemmas.List.{map-append, map-set, length-map, length-set}
+use Rattle.std.proofs.lemmas.List.{map-append, map-set, length-map, take-append-drop}
 use Rattle.std.proofs.lemmas.Option.{slice_get_within}
+use Rattle.spi_term.proofs.Freeness.{or_false}
 use Rattle.spi_term.proofs.Lists.{some_is}
 use Rattle.spi_replay.specs.declared.places.Place.{Place}
 use Rattle.spi_replay.specs.declared.waits.Wait.{Wait}
-use Rattle.spi_replay.specs.declared.waits.Wait.TheVariants.{Stays}
-use Rattle.spi_replay.specs.declared.tables.Change.{Change}
-use Rattle.spi_replay.specs.Indexed.{is_on, places_on, waits_of, or_none, HasPlaces, place_listed, places_moved}
-use Rattle.spi_replay.specs.Tables.{Rises, AllRise, with_place, next_wait, table_change, relisted, HasChanged}
+use Rattle.spi_replay.specs.declared.waits.Wait.TheVariants.{Puts, Takes, TakesAgain}
+use Rattle.spi_replay.specs.Indexed.{out_channel, in_channel, is_on, places_on, waits_of, or_none, HasPlaces}
+use Rattle.spi_replay.specs.Tables.{Rises, AllRise, with_place, SetsPlace, AreAlike, are_one, wait_alike}
+
+-- another place of a list than the one that is set
+pub get_other : {A : Type 0} (xs : List A) (i j : ℕ) (x : A) → (i ≡ j → ⊥) → slice_get (slice_set xs i x) j ≡ slice_get xs j
+get_other [] i j x h = refl
+get_other (y ∷ xs) zero zero x h = absurd (h refl)
+get_other (y ∷ xs) zero (suc j) x h = refl
+get_other (y ∷ xs) (suc i) zero x h = refl
+get_other (y ∷ xs) (suc i) (suc j) x h = get_other xs i j x (λ e. h (ap suc e))
 
 lt_yes : (i n : ℕ) → i < n → nat_lt i n ≡ true
 lt_yes i n h = grind (arith, nat_tests)
@@ -196,10 +205,10 @@ set_on f c n i k [] w e h = absurd (omega arith)
 set_on f c n i zero (v ∷ ws) w e h = first_set n i (is_on c (f w)) (is_on c (f v)) (places_on f c (suc i) ws) (omega arith) (none_below (suc i) n (places_on f c (suc i) ws) (places_rise f c (suc i) ws) (omega arith)) (all_above (suc i) n (places_on f c (suc i) ws) (places_rise f c (suc i) ws) (omega arith))
 set_on f c n i (suc k) (v ∷ ws) w e h = later_set n i (is_on c (f w)) (is_on c (f v)) (places_on f c (suc i) ws) (places_on f c (suc i) (slice_set ws k w)) (omega arith) (set_on f c n (suc i) k ws w (omega arith) (omega arith))
 
-pub set_off : (f : Wait → Option ℕ) (c i k : ℕ) (ws : List Wait) (w : Wait) → ((v : Wait) → slice_get ws k ≡ Some v → is_on c (f v) ≡ false) → is_on c (f w) ≡ false → places_on f c i (slice_set ws k w) ≡ places_on f c i ws
-set_off f c i k [] w o e = refl
-set_off f c i zero (v ∷ ws) w o e = ap (λ b. if b then i ∷ places_on f c (suc i) ws else places_on f c (suc i) ws) (e ∙ sym (o v refl))
-set_off f c i (suc k) (v ∷ ws) w o e = ap (λ (is : List ℕ). if is_on c (f v) then i ∷ is else is) (set_off f c (suc i) k ws w o e)
+pub set_same : (f : Wait → Option ℕ) (c i k : ℕ) (ws : List Wait) (w : Wait) → ((v : Wait) → slice_get ws k ≡ Some v → is_on c (f v) ≡ is_on c (f w)) → places_on f c i (slice_set ws k w) ≡ places_on f c i ws
+set_same f c i k [] w o = refl
+set_same f c i zero (v ∷ ws) w o = ap (λ b. if b then i ∷ places_on f c (suc i) ws else places_on f c (suc i) ws) (sym (o v refl))
+set_same f c i (suc k) (v ∷ ws) w o = ap (λ (is : List ℕ). if is_on c (f v) then i ∷ is else is) (set_same f c (suc i) k ws w o)
 
 -- a place comes last
 alone : (n i : ℕ) (b : Bool) → n ≡ i → (if b then i ∷ [] else []) ≡ with_place n b []
@@ -214,97 +223,121 @@ pub push_off : (f : Wait → Option ℕ) (c i : ℕ) (ws : List Wait) (w : Wait)
 push_off f c i [] w e = ap (λ b. if b then i ∷ [] else []) e
 push_off f c i (v ∷ ws) w e = ap (λ (is : List ℕ). if is_on c (f v) then i ∷ is else is) (push_off f c (suc i) ws w e)
 
--- no place comes
-pub none_on : (f : Wait → Option ℕ) (c n i : ℕ) (ws : List Wait) → n ≡ i + length ws → places_on f c i ws ≡ with_place n false (places_on f c i ws)
-none_on f c n i [] e = refl
-none_on f c n i (v ∷ ws) e = later_set n i false (is_on c (f v)) (places_on f c (suc i) ws) (places_on f c (suc i) ws) (omega arith) (none_on f c n (suc i) ws (omega arith))
+-- a place of an ascending list is searched for, and comes or goes
+module _ (n i : ℕ) (is : List ℕ) (r : Result ℕ ℕ) (h : Rises 0 is) (p : IsBinarySearchResult (λ y. nat_cmp y n) is r) where
+  pub found_there : r ≡ Ok i → is ≡ with_place n true is
+  found_there e =
+      let m = searched is n (Ok i) (subst (λ (x : Result ℕ ℕ). IsBinarySearchResult (λ y. nat_cmp y n) is x) e p) (rises_along is h) in
+      let k = cut_found n i is h m.0 m.1 in
+      let d : drop i is ≡ n ∷ drop (suc i) is = drop-cons is i 0 m.0 ∙ ap (λ x. x ∷ drop (suc i) is) m.1 in
+      sym (take-append-drop i is) ∙ ap (λ ys. take i is ++ ys) d ∙ ap (λ ys. ys ++ n ∷ drop (suc i) is) k.below ∙ ap (λ ys. filter (λ j. nat_lt j n) is ++ n ∷ ys) (above_next k.above)
+    where
+      above_next : drop (i + 1) is ≡ filter (λ j. nat_lt n j) is → drop (suc i) is ≡ filter (λ j. nat_lt n j) is
+      above_next e = ap (λ j. drop j is) (sym (add-one i)) ∙ e
 
--- what a change does to what each place waits for
-pub record HasTurned (f : Wait → Option ℕ) (vs ws : List Wait) (h : Change) : Type 0 where
-  pub on : (c : ℕ) → places_on f c 0 ws ≡ with_place h.place (is_on c h.to) (places_on f c 0 vs)
-  pub off : (c : ℕ) → is_on c h.from ≡ false → is_on c h.to ≡ false → places_on f c 0 ws ≡ places_on f c 0 vs
+  pub removed_there : r ≡ Ok i → remove is i ≡ with_place n false is
+  removed_there e =
+      let k = cut_ok n i is r e h p in
+      ap (λ ys. ys ++ drop (suc i) is) k.below ∙ ap (λ ys. filter (λ j. nat_lt j n) is ++ ys) (ap (λ j. drop j is) (sym (add-one i)) ∙ k.above)
 
-both_changed : (x y z w : Bool) (r : List ℕ → List ℕ) (t u p m q : List ℕ) → t ≡ p → u ≡ (if ((x || y) || z) || w then r t else t) → q ≡ r p → (x ≡ false → y ≡ false → m ≡ p) → (z ≡ false → w ≡ false → q ≡ m) → u ≡ q
-both_changed true y z w r t u p m q a e k g h = e ∙ ap r a ∙ sym k
-both_changed false true z w r t u p m q a e k g h = e ∙ ap r a ∙ sym k
-both_changed false false true w r t u p m q a e k g h = e ∙ ap r a ∙ sym k
-both_changed false false false true r t u p m q a e k g h = e ∙ ap r a ∙ sym k
-both_changed false false false false r t u p m q a e k g h = e ∙ a ∙ sym (h refl refl ∙ g refl refl)
+  pub inserted_there : r ≡ Err i → insert is i n ≡ with_place n true is
+  inserted_there e =
+      let k = cut_err n i is r e h p in
+      ap (λ ys. ys ++ n ∷ drop i is) k.below ∙ ap (λ ys. filter (λ j. nat_lt j n) is ++ n ∷ ys) k.above
 
--- a table after two changes has the places that there are then
-pub has_changed : (f : Wait → Option ℕ) (t u : ℕ → Option (Vec ℕ)) (ps qs : List Place) (ws : List Wait) (a b : Change) → HasPlaces f t ps → HasTurned f (waits_of ps) ws a → HasTurned f ws (waits_of qs) b → HasChanged a b t u → HasPlaces f u qs
-has_changed f t u ps qs ws a b p g h e = λ c. both_changed (is_on c a.from) (is_on c a.to) (is_on c b.from) (is_on c b.to) (relisted a b c) (or_none (t c)) (or_none (u c)) (places_on f c 0 (waits_of ps)) (places_on f c 0 ws) (places_on f c 0 (waits_of qs)) (p c) (e c) (h.on c ∙ ap (with_place b.place (is_on c b.to)) (g.on c)) (g.off c) (h.off c)
+  pub missing_there : r ≡ Err i → is ≡ with_place n false is
+  missing_there e =
+      let k = cut_err n i is r e h p in
+      sym (take-append-drop i is) ∙ ap (λ ys. ys ++ drop i is) k.below ∙ ap (λ ys. filter (λ j. nat_lt j n) is ++ ys) k.above
 
--- one list after another is put in its place
-pub put_one : (b d : Bool) (l r t u v : List ℕ) → v ≡ (if b then l else u) → (b ≡ true → l ≡ r) → u ≡ (if d then r else t) → v ≡ (if d || b then r else t)
-put_one true true l r t u v e h k = e ∙ h refl
-put_one true false l r t u v e h k = e ∙ h refl
-put_one false true l r t u v e h k = e ∙ k
-put_one false false l r t u v e h k = e ∙ k
+-- a table after one place comes or goes
+pub set_rises : (k : ℕ) (on : Bool) (o : Option ℕ) (t u : ℕ → Option (Vec ℕ)) → AllRise t → SetsPlace k on o t u → AllRise u
+set_rises k on o t u r e = λ c. subst (Rises 0) (sym (e c)) (by c (is_on c o))
+  where
+    by : (c : ℕ) (b : Bool) → Rises 0 (if b then with_place k on (or_none (t c)) else or_none (t c))
+    by c true = rises_with 0 k on (or_none (t c)) (omega arith) (r c)
+    by c false = r c
 
--- a place changes
+-- two that do not wait alike are on no channel both, and two that do are on the same
+not_one : (c : ℕ) (o q : Option ℕ) → are_one o q ≡ false → is_on c o && is_on c q ≡ false
+not_one c None q e = refl
+not_one c (Some d) None e = grind (arith, nat_tests)
+not_one c (Some d) (Some b) e = grind (arith, nat_tests)
+
+same_on : (c : ℕ) (o q : Option ℕ) → are_one o q ≡ true → is_on c o ≡ is_on c q
+same_on c None q e = absurd cc
+same_on c (Some d) None e = absurd cc
+same_on c (Some d) (Some b) e = ap (λ n. c == n) (eqb-true d b e)
+
+pub alike_out : (v w : Wait) → wait_alike v w ≡ true → (c : ℕ) → is_on c (out_channel v) ≡ is_on c (out_channel w)
+alike_out (Puts a x) (Puts b y) e c = same_on c (Some a.place) (Some b.place) (sym (or-false (a.place == b.place)) ∙ e)
+alike_out (Puts a x) w e c = absurd cc
+alike_out v (Puts b y) e c = absurd cc
+alike_out v w e c = refl
+
+pub alike_in : (v w : Wait) → wait_alike v w ≡ true → (c : ℕ) → is_on c (in_channel v) ≡ is_on c (in_channel w)
+alike_in (Takes a x) (Takes b y) e c = same_on c (Some a.place) (Some b.place) e
+alike_in (Takes a x) (TakesAgain b y) e c = same_on c (Some a.place) (Some b.place) e
+alike_in (TakesAgain a x) (Takes b y) e c = same_on c (Some a.place) (Some b.place) e
+alike_in (TakesAgain a x) (TakesAgain b y) e c = same_on c (Some a.place) (Some b.place) e
+alike_in (Takes a x) w e c = absurd cc
+alike_in (TakesAgain a x) w e c = absurd cc
+alike_in v (Takes b y) e c = absurd cc
+alike_in v (TakesAgain b y) e c = absurd cc
+alike_in v w e c = refl
+
+-- the list of a channel after a place has come and one has gone
+come_gone : (b d : Bool) (k : ℕ) (t u x p s : List ℕ) → b && d ≡ false → t ≡ p → u ≡ (if d then with_place k true t else t) → x ≡ (if b then with_place k false u else u) → s ≡ with_place k d p → (b ≡ d → s ≡ p) → x ≡ s
+come_gone true true k t u x p s z a e g l h = absurd cc
+come_gone true false k t u x p s z a e g l h = g ∙ ap (with_place k false) (e ∙ a) ∙ sym l
+come_gone false true k t u x p s z a e g l h = g ∙ e ∙ ap (with_place k true) a ∙ sym l
+come_gone false false k t u x p s z a e g l h = g ∙ e ∙ a ∙ sym (h refl)
+
+-- a place is replaced
 get_wait : (xs : List Place) (i : ℕ) (x : Place) → slice_get xs i ≡ Some x → slice_get (waits_of xs) i ≡ Some x.wait
 get_wait [] i x e = absurd cc
 get_wait (y ∷ xs) zero x e = ap (λ (z : Place). Some z.wait) (some_is e)
 get_wait (y ∷ xs) (suc i) x e = get_wait xs i x e
 
-pub turned_set : (f : Wait → Option ℕ) (ps : List Place) (k : ℕ) (p q : Place) → slice_get ps k ≡ Some q → HasTurned f (waits_of ps) (waits_of (slice_set ps k p)) (table_change f (record { place = k; from = q.wait; to = p.wait }))
-turned_set f ps k p q e = record {
-  on = λ c. ap (places_on f c 0) (map-set (λ (x : Place). x.wait) ps k p) ∙ set_on f c k 0 k (waits_of ps) p.wait (omega arith) (omega (arith, slice_get_within ps k q e, length-map ps (λ (x : Place). x.wait)));
-  off = λ c g h. ap (places_on f c 0) (map-set (λ (x : Place). x.wait) ps k p) ∙ set_off f c 0 k (waits_of ps) p.wait (λ v at. subst (λ (w : Wait). is_on c (f w) ≡ false) (some_is (sym (get_wait ps k q e) ∙ at)) g) h;
-}
+module _ (f : Wait → Option ℕ) (t : ℕ → Option (Vec ℕ)) (ps : List Place) (h : HasPlaces f t ps) where
+  module _ (k : ℕ) (p q : Place) (at : slice_get ps k ≡ Some q) where
+    set_alike : (c : ℕ) → is_on c (f q.wait) ≡ is_on c (f p.wait) → places_on f c 0 (waits_of (slice_set ps k p)) ≡ places_on f c 0 (waits_of ps)
+    set_alike c e = ap (places_on f c 0) (map-set (λ (x : Place). x.wait) ps k p) ∙ set_same f c 0 k (waits_of ps) p.wait (λ v g. ap (λ (w : Wait). is_on c (f w)) (some_is (sym g ∙ get_wait ps k q at)) ∙ e)
 
--- a place changes after one that waits for nothing now, which may be the same
-get_after : (xs : List Wait) (i j : ℕ) (v w : Wait) → slice_get (slice_set xs i w) j ≡ Some v → (slice_get xs j ≡ Some v) ⊎ (v ≡ w)
-get_after [] i j v w e = absurd cc
-get_after (x ∷ xs) zero zero v w e = inr (sym (some_is e))
-get_after (x ∷ xs) zero (suc j) v w e = inl e
-get_after (x ∷ xs) (suc i) zero v w e = inl e
-get_after (x ∷ xs) (suc i) (suc j) v w e = get_after xs i j v w e
+    set_with : (c : ℕ) → places_on f c 0 (waits_of (slice_set ps k p)) ≡ with_place k (is_on c (f p.wait)) (places_on f c 0 (waits_of ps))
+    set_with c = ap (places_on f c 0) (map-set (λ (x : Place). x.wait) ps k p) ∙ set_on f c k 0 k (waits_of ps) p.wait (omega arith) (omega (arith, slice_get_within ps k q at, length-map ps (λ (x : Place). x.wait)))
 
-pub turned_next : (f : Wait → Option ℕ) (ps : List Place) (i j : ℕ) (d p q : Place) → f d.wait ≡ None → slice_get ps j ≡ Some q → HasTurned f (waits_of (slice_set ps i d)) (waits_of (slice_set (slice_set ps i d) j p)) (table_change f (record { place = j; from = q.wait; to = p.wait }))
-turned_next f ps i j d p q n e = record {
-  on = λ c. ap (places_on f c 0) (map-set (λ (x : Place). x.wait) (slice_set ps i d) j p) ∙ set_on f c j 0 j (waits_of (slice_set ps i d)) p.wait (omega arith) (omega (arith, slice_get_within ps j q e, length-map (slice_set ps i d) (λ (x : Place). x.wait), length-set ps i d));
-  off = λ c g h. ap (places_on f c 0) (map-set (λ (x : Place). x.wait) (slice_set ps i d) j p) ∙ set_off f c 0 j (waits_of (slice_set ps i d)) p.wait (λ v at. by c g v (get_after (waits_of ps) i j v d.wait (subst (λ (ws : List Wait). slice_get ws j ≡ Some v) (map-set (λ (x : Place). x.wait) ps i d) at))) h;
-}
-  where
-    by : (c : ℕ) → is_on c (f q.wait) ≡ false → (v : Wait) → (slice_get (waits_of ps) j ≡ Some v) ⊎ (v ≡ d.wait) → is_on c (f v) ≡ false
-    by c g v (inl at) = subst (λ (w : Wait). is_on c (f w) ≡ false) (some_is (sym (get_wait ps j q e) ∙ at)) g
-    by c g v (inr s) = ap (λ (w : Wait). is_on c (f w)) s ∙ ap (is_on c) n
+    pub set_has : (u x : ℕ → Option (Vec ℕ)) → ((c : ℕ) → is_on c (f q.wait) && is_on c (f p.wait) ≡ false) → SetsPlace k true (f p.wait) t u → SetsPlace k false (f q.wait) u x → HasPlaces f x (slice_set ps k p)
+    set_has u x z e g = λ c. come_gone (is_on c (f q.wait)) (is_on c (f p.wait)) k (or_none (t c)) (or_none (u c)) (or_none (x c)) (places_on f c 0 (waits_of ps)) (places_on f c 0 (waits_of (slice_set ps k p))) (z c) (h c) (e c) (g c) (set_with c) (set_alike c)
 
--- a place comes, or none
-pub turned_push : (f : Wait → Option ℕ) (ps : List Place) (n : ℕ) (p : Place) → n ≡ length ps → HasTurned f (waits_of ps) (waits_of (ps ++ p ∷ [])) (table_change f (record { place = n; from = Stays; to = p.wait }))
-turned_push f ps n p e = record {
-  on = λ c. ap (places_on f c 0) (map-append (λ (x : Place). x.wait) ps (p ∷ [])) ∙ push_on f c n 0 (waits_of ps) p.wait (omega (arith, length-map ps (λ (x : Place). x.wait)));
-  off = λ c g h. ap (places_on f c 0) (map-append (λ (x : Place). x.wait) ps (p ∷ [])) ∙ push_off f c 0 (waits_of ps) p.wait h;
-}
+    pub alike_has : ((c : ℕ) → is_on c (f q.wait) ≡ is_on c (f p.wait)) → HasPlaces f t (slice_set ps k p)
+    alike_has e = λ c. h c ∙ sym (set_alike c (e c))
 
-pub turned_none : (f : Wait → Option ℕ) (ps : List Place) (n : ℕ) → f Stays ≡ None → n ≡ length ps → HasTurned f (waits_of ps) (waits_of ps) (table_change f (record { place = n; from = Stays; to = Stays }))
-turned_none f ps n s e = record {
-  on = λ c. none_on f c n 0 (waits_of ps) (omega (arith, length-map ps (λ (x : Place). x.wait))) ∙ ap (λ b. with_place n b (places_on f c 0 (waits_of ps))) (sym (ap (is_on c) s));
-  off = λ c g h. refl;
-}
+    pub done_has : (x : ℕ → Option (Vec ℕ)) → f p.wait ≡ None → SetsPlace k false (f q.wait) t x → HasPlaces f x (slice_set ps k p)
+    done_has x n g = set_has t x (λ c. ap (λ o. is_on c (f q.wait) && is_on c o) n ∙ and-false (is_on c (f q.wait))) (λ c. sym (ap (λ o. if is_on c o then with_place k true (or_none (t c)) else or_none (t c)) n)) g
 
-pub turned_more : (f : Wait → Option ℕ) (ps : List Place) (n : ℕ) (more : Option Place) → f Stays ≡ None → n ≡ length ps → HasTurned f (waits_of ps) (waits_of (ps ++ place_listed more)) (table_change f (record { place = n; from = Stays; to = next_wait more }))
-turned_more f ps n None s e = subst (λ (qs : List Place). HasTurned f (waits_of ps) (waits_of qs) (table_change f (record { place = n; from = Stays; to = Stays }))) (sym (append-nil ps)) (turned_none f ps n s e)
-turned_more f ps n (Some p) s e = turned_push f ps n p e
+  -- a place comes last, and goes again
+  pub pushed_has : (u : ℕ → Option (Vec ℕ)) (n : ℕ) (p : Place) → n ≡ length ps → SetsPlace n true (f p.wait) t u → HasPlaces f u (ps ++ p ∷ [])
+  pushed_has u n p e g = λ c.
+      let m = ap (places_on f c 0) (map-append (λ (x : Place). x.wait) ps (p ∷ [])) in
+      come_gone false (is_on c (f p.wait)) n (or_none (t c)) (or_none (u c)) (or_none (u c)) (places_on f c 0 (waits_of ps)) (places_on f c 0 (waits_of (ps ++ p ∷ []))) refl (h c) (g c) refl (m ∙ push_on f c n 0 (waits_of ps) p.wait (omega (arith, length-map ps (λ (x : Place). x.wait)))) (λ b. m ∙ push_off f c 0 (waits_of ps) p.wait (sym b))
 
--- a table has the places after a push, an act and a meeting
-pub pushed_has : (f : Wait → Option ℕ) (t u : ℕ → Option (Vec ℕ)) (ps qs : List Place) (n : ℕ) (p : Place) → f Stays ≡ None → n ≡ length ps → HasPlaces f t ps → HasChanged (table_change f (record { place = n; from = Stays; to = Stays })) (table_change f (record { place = n; from = Stays; to = p.wait })) t u → qs ≡ ps ++ p ∷ [] → HasPlaces f u qs
-pushed_has f t u ps qs n p s e h g k = subst (HasPlaces f u) (sym k) (has_changed f t u ps (ps ++ p ∷ []) (waits_of ps) (table_change f (record { place = n; from = Stays; to = Stays })) (table_change f (record { place = n; from = Stays; to = p.wait })) h (turned_none f ps n s e) (turned_push f ps n p e) g)
+  pub popped_has : (qs : List Place) (p : Place) → f p.wait ≡ None → ps ≡ qs ++ p ∷ [] → HasPlaces f t qs
+  popped_has qs p n e = λ c.
+      h c ∙ ap (λ (xs : List Place). places_on f c 0 (waits_of xs)) e ∙ ap (places_on f c 0) (map-append (λ (x : Place). x.wait) qs (p ∷ [])) ∙ push_off f c 0 (waits_of qs) p.wait (ap (is_on c) n)
 
-pub moved_has : (f : Wait → Option ℕ) (t u : ℕ → Option (Vec ℕ)) (ps qs : List Place) (i n : ℕ) (p q : Place) (more : Option Place) (v : Wait) → f Stays ≡ None → slice_get ps i ≡ Some q → n ≡ length ps → v ≡ next_wait more → HasPlaces f t ps → HasChanged (table_change f (record { place = i; from = q.wait; to = p.wait })) (table_change f (record { place = n; from = Stays; to = v })) t u → qs ≡ places_moved ps i p more → HasPlaces f u qs
-moved_has f t u ps qs i n p q more v s at e w h g k =
-    let g' : HasChanged (table_change f (record { place = i; from = q.wait; to = p.wait })) (table_change f (record { place = n; from = Stays; to = next_wait more })) t u = subst (λ (x : Wait). HasChanged (table_change f (record { place = i; from = q.wait; to = p.wait })) (table_change f (record { place = n; from = Stays; to = x })) t u) w g in
-    subst (HasPlaces f u) (sym k) (has_changed f t u ps (places_moved ps i p more) (waits_of (slice_set ps i p)) (table_change f (record { place = i; from = q.wait; to = p.wait })) (table_change f (record { place = n; from = Stays; to = next_wait more })) h (turned_set f ps i p q at) (turned_more f (slice_set ps i p) n more s (e ∙ sym (length-set ps i p))) g')
+  -- the lists are as they were
+  pub same_has : (u : ℕ → Option (Vec ℕ)) → AreAlike t u → HasPlaces f u ps
+  same_has u e = λ c. e c ∙ h c
 
-pub met_has : (f : Wait → Option ℕ) (t u : ℕ → Option (Vec ℕ)) (ps qs : List Place) (i j : ℕ) (d p out inp : Place) → f d.wait ≡ None → slice_get ps i ≡ Some out → slice_get ps j ≡ Some inp → HasPlaces f t ps → HasChanged (table_change f (record { place = i; from = out.wait; to = d.wait })) (table_change f (record { place = j; from = inp.wait; to = p.wait })) t u → qs ≡ slice_set (slice_set ps i d) j p → HasPlaces f u qs
-met_has f t u ps qs i j d p out inp s at at' h g k = subst (HasPlaces f u) (sym k) (has_changed f t u ps (slice_set (slice_set ps i d) j p) (waits_of (slice_set ps i d)) (table_change f (record { place = i; from = out.wait; to = d.wait })) (table_change f (record { place = j; from = inp.wait; to = p.wait })) h (turned_set f ps i d out at) (turned_next f ps i j d p inp s at') g)
+  -- each list ascends
+  pub has_rise : AllRise t
+  has_rise = λ c. subst (Rises 0) (sym (h c)) (places_rise f c 0 (waits_of ps))
 
--- a table is as it was
-pub same_has : (f : Wait → Option ℕ) (t u : ℕ → Option (Vec ℕ)) (ps qs : List Place) → ((c : ℕ) → u c ≡ t c) → HasPlaces f t ps → qs ≡ ps → HasPlaces f u qs
-same_has f t u ps qs e h k = λ c. ap or_none (e c) ∙ h c ∙ sym (ap (λ (xs : List Place). places_on f c 0 (waits_of xs)) k)
+-- what waits alike, and what doesn't
+module _ (v w : Wait) where
+  pub apart_out : wait_alike v w ≡ false → (c : ℕ) → is_on c (out_channel v) && is_on c (out_channel w) ≡ false
+  apart_out e c = not_one c (out_channel v) (out_channel w) (or_false (are_one (out_channel v) (out_channel w)) (are_one (in_channel v) (in_channel w)) e).0
 
--- each list of such a table ascends
-pub has_rise : (f : Wait → Option ℕ) (t : ℕ → Option (Vec ℕ)) (ps : List Place) → HasPlaces f t ps → AllRise t
-has_rise f t ps h = λ c. subst (Rises 0) (sym (h c)) (places_rise f c 0 (waits_of ps))
+  pub apart_in : wait_alike v w ≡ false → (c : ℕ) → is_on c (in_channel v) && is_on c (in_channel w) ≡ false
+  apart_in e c = not_one c (in_channel v) (in_channel w) (or_false (are_one (out_channel v) (out_channel w)) (are_one (in_channel v) (in_channel w)) e).1

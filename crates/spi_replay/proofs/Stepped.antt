@@ -28,6 +28,7 @@ use Rattle.spi_replay.specs.Moves.{w_stays}
 use Rattle.spi_replay.specs.Standing.{Enters, CanEnter, IsPlace, ArePlaces, processes, StandsAt}
 use Rattle.spi_replay.specs.Indexed.{place_listed, place_done, places_moved, places_settled}
 use Rattle.spi_replay.specs.Pools.{configuration_of, pool_of, TakenBy, again_appends}
+use Rattle.spi_replay.proofs.Indexing.{get_other}
 use Rattle.spi_replay.proofs.Opening.{held_first}
 use Rattle.spi_replay.proofs.Subtrees.{root_tree, root_follows}
 use Rattle.spi_intern.proofs.Sized.{at_message}
@@ -51,13 +52,6 @@ set_same : {A : Type 0} (xs : List A) (i : ℕ) {x : A} → slice_get xs i ≡ S
 set_same [] i e = absurd cc
 set_same (y ∷ xs) zero {x} e = let g : x ≡ y = cc in ap (λ z. z ∷ xs) g
 set_same (y ∷ xs) (suc i) e = ap (λ zs. y ∷ zs) (set_same xs i e)
-
-get_other : {A : Type 0} (xs : List A) (i j : ℕ) (x : A) → (i ≡ j → ⊥) → slice_get (slice_set xs i x) j ≡ slice_get xs j
-get_other [] i j x h = refl
-get_other (y ∷ xs) zero zero x h = absurd (h refl)
-get_other (y ∷ xs) zero (suc j) x h = refl
-get_other (y ∷ xs) (suc i) zero x h = refl
-get_other (y ∷ xs) (suc i) (suc j) x h = get_other xs i j x (λ e. h (ap suc e))
 
 -- places that stay
 pub places_kept : {ms ns : List Message} {ls ks : List Link} {ps : List Place} → KeepsAll ms ns → KeepsAll ls ks → ArePlaces ms ls ps → ArePlaces ns ks ps

@@ -1,14 +1,8 @@
 -- Tables of the places that wait on each channel, as places change.
-use Rattle.std.specs.Prelude.{◌≡◌, ◌≤◌, ⊤, ℕ, suc, ◌||◌, Bool, true, List, [], ◌∷◌, ◌++◌, filter, if◌then◌else◌, nat_lt, Option, Some, None}
+use Rattle.std.specs.Prelude.{◌≡◌, ◌≤◌, ⊤, ℕ, suc, ◌||◌, Bool, false, List, [], ◌∷◌, ◌++◌, filter, if◌then◌else◌, nat_lt, Option, Some, None}
 use Rattle.std.specs.Global.{Vec}
-use Rattle.spi_replay.specs.declared.places.Place.{Place}
 use Rattle.spi_replay.specs.declared.waits.Wait.{Wait}
-use Rattle.spi_replay.specs.declared.waits.Wait.TheVariants.{Stays}
-use Rattle.spi_replay.specs.declared.tables.Turn.{Turn}
-use Rattle.spi_replay.specs.declared.tables.Change.{Change}
-use Rattle.spi_replay.specs.declared.tables.Lists.{Lists}
-use Rattle.spi_replay.specs.declared.tables.Relisted.{Relisted}
-use Rattle.spi_replay.specs.Indexed.{is_on, or_none}
+use Rattle.spi_replay.specs.Indexed.{out_channel, in_channel, is_on, or_none}
 
 -- an ascending list whose first number is i at least
 abbrev pub Rises : ℕ → List ℕ → Type 0
@@ -24,32 +18,20 @@ abbrev pub with_place : ℕ → Bool → List ℕ → List ℕ
 with_place k on is =
     filter (λ i. nat_lt i k) is ++ ((if on then k ∷ [] else []) ++ filter (λ i. nat_lt k i) is)
 
--- what a place that may come waits for
-abbrev pub next_wait : Option Place → Wait
-next_wait None = Stays
-next_wait (Some p) = p.wait
+-- the table u has the lists of t, where that of a channel, if there is one, has place k or hasn't it
+abbrev pub SetsPlace : ℕ → Bool → Option ℕ → (ℕ → Option (Vec ℕ)) → (ℕ → Option (Vec ℕ)) → Type 0
+SetsPlace k on o t u = (c : ℕ)
+    → or_none (u c) ≡ (if is_on c o then with_place k on (or_none (t c)) else or_none (t c))
 
--- the channels that a place leaves and enters
-abbrev pub table_change : (Wait → Option ℕ) → Turn → Change
-table_change f t = record { place = t.place; from = f t.from; to = f t.to }
+-- two tables have the same lists
+abbrev pub AreAlike : (ℕ → Option (Vec ℕ)) → (ℕ → Option (Vec ℕ)) → Type 0
+AreAlike t u = (c : ℕ) → or_none (u c) ≡ or_none (t c)
 
-abbrev pub is_touched : Change → Change → ℕ → Bool
-is_touched a b c = ((is_on c a.from || is_on c a.to) || is_on c b.from) || is_on c b.to
+-- whether both are one channel
+abbrev pub are_one : Option ℕ → Option ℕ → Bool
+are_one None o = false
+are_one (Some c) o = is_on c o
 
--- the list of a channel after two changes
-abbrev pub relisted : Change → Change → ℕ → List ℕ → List ℕ
-relisted a b c is = with_place b.place (is_on c b.to) (with_place a.place (is_on c a.to) is)
-
--- the lists of the channels that a change touches, after two changes
-pub record AreLists (t : ℕ → Option (Vec ℕ)) (a b h : Change) (l : Lists) : Type 0 where
-  pub from : (c : ℕ) → is_on c h.from ≡ true → l.from.items ≡ relisted a b c (or_none (t c))
-  pub to : (c : ℕ) → is_on c h.to ≡ true → l.to.items ≡ relisted a b c (or_none (t c))
-
-pub record IsRelisted (t : ℕ → Option (Vec ℕ)) (a b : Change) (r : Relisted) : Type 0 where
-  pub first : AreLists t a b a r.first
-  pub second : AreLists t a b b r.second
-
--- the table u has each list of t after two changes
-abbrev pub HasChanged : Change → Change → (ℕ → Option (Vec ℕ)) → (ℕ → Option (Vec ℕ)) → Type 0
-HasChanged a b t u = (c : ℕ)
-    → or_none (u c) ≡ (if is_touched a b c then relisted a b c (or_none (t c)) else or_none (t c))
+-- whether they wait on one channel, and on the same side of it
+abbrev pub wait_alike : Wait → Wait → Bool
+wait_alike v w = are_one (out_channel v) (out_channel w) || are_one (in_channel v) (in_channel w)

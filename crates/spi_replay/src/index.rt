@@ -1,15 +1,14 @@
 //! The places of a pool, by the channels that they wait on.
 
-ghost use Rattle.std.specs.Prelude.{◌≡◌, ◌<◌, ◌-◌, ◌^◌, [], ◌∷◌, ◌++◌, Some, length, slice_get, slice_set, nat_eq, OnOk, OnErr};
+ghost use Rattle.std.specs.Prelude.{◌≡◌, ◌<◌, ◌-◌, ◌^◌, [], ◌∷◌, ◌++◌, Some, length, take, slice_get, slice_set, nat_eq, OnOk, OnErr};
 ghost use Rattle.std.specs.Vec.{vec_len, vec_capacity};
 ghost use Rattle.spi_replay.specs.declared.places.Place.{Place as PlaceTerm};
 ghost use Rattle.indexmap.specs.IndexMap.{get};
 ghost use Rattle.spi_replay.specs.Indexed.{HasPlaces, out_channel, in_channel, places_on, waits_of, places_moved as moved_of, places_settled, place_done as done_of};
-ghost use Rattle.spi_replay.specs.Tables.{next_wait as next_wait_of};
 
 use crate::NoMemory;
 use crate::places::Place;
-use crate::tables::{Turn, list_of, turn_both};
+use crate::tables::{enter, leave, list_of, wait_alike};
 use crate::waits::Wait;
 use indexmap::IndexMap;
 use spi_intern::MsgId;
@@ -77,19 +76,49 @@ impl<'p> Index<'p> {
     {
         self.places.reserve(1)?;
         let next = self.places.len() as u32;
-        let first = Turn {
-            place: next,
-            from: Wait::Stays,
-            to: Wait::Stays,
-        };
-        let second = Turn {
-            place: next,
-            from: Wait::Stays,
-            to: place.wait,
-        };
-        turn_both(self.alloc, &mut self.outs, &mut self.ins, first, second)?;
+        enter(self.alloc, &mut self.outs, &mut self.ins, next, place.wait)?;
         append(&mut self.places, place);
         Ok(())
+    }
+
+    // The last place goes again.
+    fn take_back(&mut self)
+        requires some { 0 < length self.old.places.items }
+        requires few { length self.old.places.items < 2 ^ 32 }
+        ensures { self.new.places.items ≡ take (length self.old.places.items - 1) self.old.places.items }
+    {
+        let last = (self.places.len() - 1) as u32;
+        let place = self.at(last);
+        leave(&mut self.outs, &mut self.ins, last, place.wait);
+        let _ = self.places.pop();
+    }
+
+    // A place is replaced. After an error nothing has changed.
+    fn set(&mut self, at: u32, now: Place<'p>) -> Result<(), NoMemory>
+        requires { at < length self.old.places.items }
+        ensures set { OnOk result (self.new.places.items ≡ slice_set self.old.places.items at now.entry) }
+        ensures same { OnErr result (self.new.places.items ≡ self.old.places.items) }
+    {
+        let before = self.places[at as usize].wait;
+        if wait_alike(before, now.wait) {
+            self.places[at as usize] = now;
+            return Ok(());
+        }
+        enter(self.alloc, &mut self.outs, &mut self.ins, at, now.wait)?;
+        leave(&mut self.outs, &mut self.ins, at, before);
+        self.places[at as usize] = now;
+        Ok(())
+    }
+
+    // The output of a place is taken.
+    fn finish(&mut self, at: u32)
+        requires { at < length self.old.places.items }
+        ensures { (p : PlaceTerm) → slice_get self.old.places.items at ≡ Some p
+            → self.new.places.items ≡ slice_set self.old.places.items at (done_of p) }
+    {
+        let place = self.at(at);
+        leave(&mut self.outs, &mut self.ins, at, place.wait);
+        self.places[at as usize] = done_place(place);
     }
 
     /// A place as it is after an act, with the one that is appended. After an error nothing has changed.
@@ -105,51 +134,33 @@ impl<'p> Index<'p> {
             (self.new.places.items ≡ moved_of self.old.places.items at now.entry more.entry) }
         ensures same { OnErr result (self.new.places.items ≡ self.old.places.items) }
     {
-        self.places.reserve(1)?;
-        let first = Turn {
-            place: at,
-            from: self.places[at as usize].wait,
-            to: now.wait,
+        let Some(more) = more else {
+            return self.set(at, now);
         };
-        let second = Turn {
-            place: self.places.len() as u32,
-            from: Wait::Stays,
-            to: next_wait(more),
-        };
-        turn_both(self.alloc, &mut self.outs, &mut self.ins, first, second)?;
-        put_moved(&mut self.places, at, now, more);
-        Ok(())
+        self.push(more)?;
+        match self.set(at, now) {
+            Ok(()) => Ok(()),
+            Err(fault) => {
+                self.take_back();
+                Err(fault)
+            }
+        }
     }
 
     // The output's place is done, and the input's place goes on. After an error nothing has changed.
-    fn met_once(
-        &mut self,
-        out: u32,
-        done: Place<'p>,
-        inp: u32,
-        now: Place<'p>,
-    ) -> Result<(), NoMemory>
+    fn met_once(&mut self, out: u32, inp: u32, now: Place<'p>) -> Result<(), NoMemory>
         requires out { out < length self.old.places.items }
         requires inp { inp < length self.old.places.items }
-        requires stays { done.wait ≡ Wait.Stays }
         ensures settled { OnOk result
-            (self.new.places.items
-            ≡ slice_set (slice_set self.old.places.items out done.entry) inp now.entry) }
+            ((sender : PlaceTerm) → slice_get self.old.places.items out ≡ Some sender
+            → self.new.places.items
+            ≡ slice_set (slice_set self.old.places.items out (done_of sender)) inp now.entry) }
         ensures same { OnErr result (self.new.places.items ≡ self.old.places.items) }
     {
-        let first = Turn {
-            place: out,
-            from: self.places[out as usize].wait,
-            to: done.wait,
-        };
-        let second = Turn {
-            place: inp,
-            from: self.places[inp as usize].wait,
-            to: now.wait,
-        };
-        turn_both(self.alloc, &mut self.outs, &mut self.ins, first, second)?;
-        self.places[out as usize] = done;
-        self.places[inp as usize] = now;
+        self.set(inp, now)?;
+        if out != inp {
+            self.finish(out);
+        }
         Ok(())
     }
 
@@ -164,11 +175,12 @@ impl<'p> Index<'p> {
             → self.new.places.items ≡ places_settled self.old.places.items out sender inp now.entry again) }
         ensures same { OnErr result (self.new.places.items ≡ self.old.places.items) }
     {
-        let done = done_place(self.at(out));
         if again {
-            self.moved(out, done, Some(now))
+            self.push(now)?;
+            self.finish(out);
+            Ok(())
         } else {
-            self.met_once(out, done, inp, now)
+            self.met_once(out, inp, now)
         }
     }
 }
@@ -184,31 +196,10 @@ fn done_place(place: Place<'_>) -> Place<'_>
     }
 }
 
-fn next_wait(place: Option<Place<'_>>) -> Wait
-    ensures { result ≡ next_wait_of place.entry }
-{
-    match place {
-        Some(place) => place.wait,
-        None => Wait::Stays,
-    }
-}
-
 // One place more, for which there is room.
 fn append<'p>(places: &mut Vec<Place<'p>>, place: Place<'p>)
     requires { vec_len places.old < vec_capacity places.old }
     ensures { places.new.items ≡ places.old.items ++ place.entry ∷ [] }
 {
     let _ = places.push(place);
-}
-
-// A place after an act, with the one that is appended, for which there is room.
-fn put_moved<'p>(places: &mut Vec<Place<'p>>, at: u32, now: Place<'p>, more: Option<Place<'p>>)
-    requires at { at < length places.old.items }
-    requires room { vec_len places.old < vec_capacity places.old }
-    ensures { places.new.items ≡ moved_of places.old.items at now.entry more.entry }
-{
-    places[at as usize] = now;
-    if let Some(more) = more {
-        append(places, more);
-    }
 }

@@ -1,26 +1,21 @@
-use Rattle.std.proofs.Common.{◌≡◌, length, refl, ap, Some, slice_get}
-use Rattle.std.specs.Prelude.{nat_eq, slice_set}
-use Rattle.std.proofs.lemmas.Option.{slice_get_read}
-use Rattle.indexmap.specs.IndexMap.{get}
-use Rattle.spi_replay.specs.Indexed.{out_channel, in_channel}
-use Rattle.spi_replay.proofs.Indexing.{has_rise, met_has}
+use Rattle.std.proofs.Common.{◌≡◌, ap, sym, ◌∙◌, List, Some, slice_get}
+use Rattle.std.specs.Prelude.{slice_set}
+use Rattle.std.proofs.lemmas.List.{set_comm, set-set}
+use Rattle.spi_replay.specs.declared.places.Place.{Place}
+use Rattle.spi_replay.specs.Indexed.{place_done}
+use Rattle.spi_replay.proofs.Indexing.{get_other}
 use Rattle.spi_replay.proofs.index.Index.met_once.Goals as goal
 
-pub invariant_of-self-2 : goal.invariant_of-self-2
-invariant_of-self-2 c =
+pub returns-then-out-inp-clause-settled : goal.returns-then-out-inp-clause-settled
+returns-then-out-inp-clause-settled c = λ sender at.
     let ps = c.args.self.now.places.items in
-    let o = c.index.result.now in
-    let i = c.index-2.result.now in
-    let at : slice_get ps c.args.out ≡ Some o = slice_get_read ps (length ps) c.args.out o refl c.requires.out c.index.ensures in
-    let at' : slice_get ps c.args.inp ≡ Some i = slice_get_read ps (length ps) c.args.inp i refl c.requires.inp c.index-2.ensures in
-    let qs = slice_set (slice_set ps c.args.out c.args.done) c.args.inp c.args.now in
-    record {
-      outs_are = met_has out_channel (get nat_eq c.args.self.now.outs) (get nat_eq c.turn_both.new.outs) ps qs c.args.out c.args.inp c.args.done c.args.now o i (ap out_channel c.requires.stays) at at' c.args.self.now.outs_are c.in_ok-turn_both.ensures.outs refl;
-      ins_are = met_has in_channel (get nat_eq c.args.self.now.ins) (get nat_eq c.turn_both.new.ins) ps qs c.args.out c.args.inp c.args.done c.args.now o i (ap in_channel c.requires.stays) at at' c.args.self.now.ins_are c.in_ok-turn_both.ensures.ins refl;
-    }
+    let k = c.in_ok-set.ensures.set in
+    let other = λ (e : c.args.inp ≡ c.args.out). c.if-out-inp.true (sym e) in
+    let there : slice_get c.set.new.self.places.items c.args.out ≡ Some sender = ap (λ (xs : List Place). slice_get xs c.args.out) k ∙ get_other ps c.args.inp c.args.out c.args.now other ∙ at in
+    c.finish.ensures sender there ∙ ap (λ (xs : List Place). slice_set xs c.args.out (place_done sender)) k ∙ set_comm ps c.args.inp c.args.out c.args.now (place_done sender) other
 
-pub turn_both-requires-clause-outs : goal.turn_both-requires-clause-outs
-turn_both-requires-clause-outs c = has_rise out_channel (get nat_eq c.args.self.now.outs) c.args.self.now.places.items c.args.self.now.outs_are
-
-pub turn_both-requires-clause-ins : goal.turn_both-requires-clause-ins
-turn_both-requires-clause-ins c = has_rise in_channel (get nat_eq c.args.self.now.ins) c.args.self.now.places.items c.args.self.now.ins_are
+pub returns-else-out-inp-clause-settled : goal.returns-else-out-inp-clause-settled
+returns-else-out-inp-clause-settled c = λ sender at.
+    let ps = c.args.self.now.places.items in
+    let d = place_done sender in
+    c.in_ok-set.ensures.set ∙ sym (set-set ps c.args.inp d c.args.now) ∙ ap (λ i. slice_set (slice_set ps i d) c.args.inp c.args.now) (sym c.if-out-inp.false)
