@@ -5,18 +5,17 @@ use Rattle.std.specs.Global.{Vec}
 use Rattle.std.specs.Ordering.{nat_cmp}
 use Rattle.std.specs.List.Sorted.{IsBinarySearchResult}
 use Rattle.std.proofs.lemmas.List.Sorted.{searched}
-use Rattle.std.proofs.Math.Bool.{or-false, and-false}
+use Rattle.std.proofs.Math.Bool.{and-false}
 use Rattle.std.proofs.lemmas.Bool.{cases_order, eqb-true}
 use Rattle.std.proofs.lemmas.Bool.Decides.{nat_tests}
 use Rattle.std.proofs.lemmas.List.{map-append, map-set, length-map, take-append-drop}
 use Rattle.std.proofs.lemmas.Option.{slice_get_within}
-use Rattle.spi_term.proofs.Freeness.{or_false}
 use Rattle.spi_term.proofs.Lists.{some_is}
 use Rattle.spi_replay.specs.declared.places.Place.{Place}
 use Rattle.spi_replay.specs.declared.waits.Wait.{Wait}
 use Rattle.spi_replay.specs.declared.waits.Wait.TheVariants.{Puts, Takes, TakesAgain}
 use Rattle.spi_replay.specs.Indexed.{out_channel, in_channel, is_on, places_on, waits_of, or_none, HasPlaces}
-use Rattle.spi_replay.specs.Tables.{Rises, AllRise, with_place, SetsPlace, AreAlike, are_one, wait_alike}
+use Rattle.spi_replay.specs.Tables.{Rises, AllRise, with_place, SetsPlace, AreAlike, wait_alike}
 
 -- another place of a list than the one that is set
 pub get_other : {A : Type 0} (xs : List A) (i j : ℕ) (x : A) → (i ≡ j → ⊥) → slice_get (slice_set xs i x) j ≡ slice_get xs j
@@ -258,33 +257,35 @@ set_rises k on o t u r e = λ c. subst (Rises 0) (sym (e c)) (by c (is_on c o))
     by c true = rises_with 0 k on (or_none (t c)) (omega arith) (r c)
     by c false = r c
 
--- two that do not wait alike are on no channel both, and two that do are on the same
-not_one : (c : ℕ) (o q : Option ℕ) → are_one o q ≡ false → is_on c o && is_on c q ≡ false
-not_one c None q e = refl
-not_one c (Some d) None e = grind (arith, nat_tests)
-not_one c (Some d) (Some b) e = grind (arith, nat_tests)
+-- two that wait alike are on the same channel, and two that don't are on no channel both
+same_on : (c d : ℕ) (o : Option ℕ) → is_on d o ≡ true → (c == d) ≡ is_on c o
+same_on c d None e = absurd cc
+same_on c d (Some b) e = ap (λ n. c == n) (eqb-true d b e)
 
-same_on : (c : ℕ) (o q : Option ℕ) → are_one o q ≡ true → is_on c o ≡ is_on c q
-same_on c None q e = absurd cc
-same_on c (Some d) None e = absurd cc
-same_on c (Some d) (Some b) e = ap (λ n. c == n) (eqb-true d b e)
+not_both : (c d : ℕ) (o : Option ℕ) → is_on d o ≡ false → (c == d) && is_on c o ≡ false
+not_both c d None e = and-false (c == d)
+not_both c d (Some b) e = grind (arith, nat_tests)
 
 pub alike_out : (v w : Wait) → wait_alike v w ≡ true → (c : ℕ) → is_on c (out_channel v) ≡ is_on c (out_channel w)
-alike_out (Puts a x) (Puts b y) e c = same_on c (Some a.place) (Some b.place) (sym (or-false (a.place == b.place)) ∙ e)
-alike_out (Puts a x) w e c = absurd cc
+alike_out (Puts a x) w e c = same_on c a.place (out_channel w) e
 alike_out v (Puts b y) e c = absurd cc
 alike_out v w e c = refl
 
 pub alike_in : (v w : Wait) → wait_alike v w ≡ true → (c : ℕ) → is_on c (in_channel v) ≡ is_on c (in_channel w)
-alike_in (Takes a x) (Takes b y) e c = same_on c (Some a.place) (Some b.place) e
-alike_in (Takes a x) (TakesAgain b y) e c = same_on c (Some a.place) (Some b.place) e
-alike_in (TakesAgain a x) (Takes b y) e c = same_on c (Some a.place) (Some b.place) e
-alike_in (TakesAgain a x) (TakesAgain b y) e c = same_on c (Some a.place) (Some b.place) e
-alike_in (Takes a x) w e c = absurd cc
-alike_in (TakesAgain a x) w e c = absurd cc
+alike_in (Takes a x) w e c = same_on c a.place (in_channel w) e
+alike_in (TakesAgain a x) w e c = same_on c a.place (in_channel w) e
 alike_in v (Takes b y) e c = absurd cc
 alike_in v (TakesAgain b y) e c = absurd cc
 alike_in v w e c = refl
+
+pub apart_out : (v w : Wait) → wait_alike v w ≡ false → (c : ℕ) → is_on c (out_channel v) && is_on c (out_channel w) ≡ false
+apart_out (Puts a x) w e c = not_both c a.place (out_channel w) e
+apart_out v w e c = refl
+
+pub apart_in : (v w : Wait) → wait_alike v w ≡ false → (c : ℕ) → is_on c (in_channel v) && is_on c (in_channel w) ≡ false
+apart_in (Takes a x) w e c = not_both c a.place (in_channel w) e
+apart_in (TakesAgain a x) w e c = not_both c a.place (in_channel w) e
+apart_in v w e c = refl
 
 -- the list of a channel after a place has come and one has gone
 come_gone : (b d : Bool) (k : ℕ) (t u x p s : List ℕ) → b && d ≡ false → t ≡ p → u ≡ (if d then with_place k true t else t) → x ≡ (if b then with_place k false u else u) → s ≡ with_place k d p → (b ≡ d → s ≡ p) → x ≡ s
@@ -333,11 +334,3 @@ module _ (f : Wait → Option ℕ) (t : ℕ → Option (Vec ℕ)) (ps : List Pla
   -- each list ascends
   pub has_rise : AllRise t
   has_rise = λ c. subst (Rises 0) (sym (h c)) (places_rise f c 0 (waits_of ps))
-
--- what waits alike, and what doesn't
-module _ (v w : Wait) where
-  pub apart_out : wait_alike v w ≡ false → (c : ℕ) → is_on c (out_channel v) && is_on c (out_channel w) ≡ false
-  apart_out e c = not_one c (out_channel v) (out_channel w) (or_false (are_one (out_channel v) (out_channel w)) (are_one (in_channel v) (in_channel w)) e).0
-
-  pub apart_in : wait_alike v w ≡ false → (c : ℕ) → is_on c (in_channel v) && is_on c (in_channel w) ≡ false
-  apart_in e c = not_one c (in_channel v) (in_channel w) (or_false (are_one (out_channel v) (out_channel w)) (are_one (in_channel v) (in_channel w)) e).1

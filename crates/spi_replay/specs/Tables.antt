@@ -1,7 +1,8 @@
 -- Tables of the places that wait on each channel, as places change.
-use Rattle.std.specs.Prelude.{◌≡◌, ◌≤◌, ⊤, ℕ, suc, ◌||◌, Bool, false, List, [], ◌∷◌, ◌++◌, filter, if◌then◌else◌, nat_lt, Option, Some, None}
+use Rattle.std.specs.Prelude.{◌≡◌, ◌≤◌, ⊤, ℕ, suc, Bool, false, List, [], ◌∷◌, ◌++◌, filter, if◌then◌else◌, nat_lt, Option}
 use Rattle.std.specs.Global.{Vec}
 use Rattle.spi_replay.specs.declared.waits.Wait.{Wait}
+use Rattle.spi_replay.specs.declared.waits.Wait.TheVariants.{Puts, Takes, TakesAgain}
 use Rattle.spi_replay.specs.Indexed.{out_channel, in_channel, is_on, or_none}
 
 -- an ascending list whose first number is i at least
@@ -27,11 +28,9 @@ SetsPlace k on o t u = (c : ℕ)
 abbrev pub AreAlike : (ℕ → Option (Vec ℕ)) → (ℕ → Option (Vec ℕ)) → Type 0
 AreAlike t u = (c : ℕ) → or_none (u c) ≡ or_none (t c)
 
--- whether both are one channel
-abbrev pub are_one : Option ℕ → Option ℕ → Bool
-are_one None o = false
-are_one (Some c) o = is_on c o
-
 -- whether they wait on one channel, and on the same side of it
 abbrev pub wait_alike : Wait → Wait → Bool
-wait_alike v w = are_one (out_channel v) (out_channel w) || are_one (in_channel v) (in_channel w)
+wait_alike (Puts c d) w = is_on c.place (out_channel w)
+wait_alike (Takes c b) w = is_on c.place (in_channel w)
+wait_alike (TakesAgain c b) w = is_on c.place (in_channel w)
+wait_alike v w = false

@@ -3,7 +3,7 @@
 ghost use Rattle.std.specs.Prelude.{◌≡◌, Some, true, false, nat_eq, OnOk, OnErr};
 ghost use Rattle.indexmap.specs.IndexMap.{get};
 ghost use Rattle.spi_replay.specs.Indexed.{out_channel as out_channel_of, in_channel as in_channel_of, is_on as is_on_of, or_none};
-ghost use Rattle.spi_replay.specs.Tables.{Rises, AllRise, with_place, SetsPlace, AreAlike, are_one as are_one_of, wait_alike as wait_alike_of};
+ghost use Rattle.spi_replay.specs.Tables.{Rises, AllRise, with_place, SetsPlace, AreAlike, wait_alike as wait_alike_of};
 
 use crate::NoMemory;
 use crate::waits::Wait;
@@ -38,20 +38,16 @@ fn is_on(channel: usize, on: Option<usize>) -> bool
     }
 }
 
-fn are_one(one: Option<usize>, other: Option<usize>) -> bool
-    ensures { result ≡ are_one_of one other }
-{
-    match one {
-        Some(channel) => is_on(channel, other),
-        None => false,
-    }
-}
-
 /// Whether they wait on one channel, and on the same side of it.
 pub fn wait_alike(wait: Wait, other: Wait) -> bool
     ensures { result ≡ wait_alike_of wait other }
 {
-    are_one(out_channel(wait), out_channel(other)) || are_one(in_channel(wait), in_channel(other))
+    match wait {
+        Wait::Puts(channel, _) => is_on(channel.place(), out_channel(other)),
+        Wait::Takes(channel, _) => is_on(channel.place(), in_channel(other)),
+        Wait::TakesAgain(channel, _) => is_on(channel.place(), in_channel(other)),
+        _ => false,
+    }
 }
 
 /// The list of a channel.

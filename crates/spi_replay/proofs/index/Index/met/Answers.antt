@@ -12,6 +12,6 @@ returns-in_ok-push-clause-settled c = λ sender at.
     let k = c.in_ok-push.ensures.pushed in
     let there : slice_get c.push.new.self.places.items c.args.out ≡ Some sender = ap (λ (xs : List Place). slice_get xs c.args.out) k ∙ get_append ps (c.args.now ∷ []) c.args.out sender at in
     c.finish.ensures sender there
-        ∙ ap (λ (xs : List Place). slice_set xs c.args.out (place_done sender)) k
-        ∙ set-append_left ps (c.args.now ∷ []) c.args.out (place_done sender) c.requires.out
-        ∙ sym (ap (places_settled ps c.args.out sender c.args.inp c.args.now) c.if-again.true)
+    ∙ ap (λ (xs : List Place). slice_set xs c.args.out (place_done sender)) k
+    ∙ set-append_left ps (c.args.now ∷ []) c.args.out (place_done sender) c.requires.out
+    ∙ sym (ap (places_settled ps c.args.out sender c.args.inp c.args.now) c.if-again.true)

@@ -9,6 +9,6 @@ pub returns-in-Ok-clause-moved : goal.returns-in-Ok-clause-moved
 returns-in-Ok-clause-moved c =
     let ps = c.args.self.now.places.items in
     c.in-Ok.ensures.set
-        ∙ ap (λ (xs : List Place). slice_set xs c.args.at c.args.now) c.in_ok-push.ensures.pushed
-        ∙ set-append_left ps (c.in-Some.more ∷ []) c.args.at c.args.now c.requires.at
-        ∙ sym (ap (places_moved ps c.args.at c.args.now) c.in-Some.is)
+    ∙ ap (λ (xs : List Place). slice_set xs c.args.at c.args.now) c.in_ok-push.ensures.pushed
+    ∙ set-append_left ps (c.in-Some.more ∷ []) c.args.at c.args.now c.requires.at
+    ∙ sym (ap (places_moved ps c.args.at c.args.now) c.in-Some.is)

@@ -22,7 +22,7 @@ invariant_of-self c =
     let p = c.at-place.result in
     let d = place_done p in
     let e : slice_set ps n d ≡ c.pop.new.self.items ++ d ∷ [] =
-        set_split ps n d (omega arith) ∙ ap (λ (xs : List Place). take n ps ++ d ∷ xs) (drop_of_length-le ps {i = suc n} (omega arith)) ∙ ap (λ (xs : List Place). xs ++ d ∷ []) (ap (λ m. take (m - 1) ps) c.len.ensures ∙ sym c.pop.ensures.rest) in
+    set_split ps n d (omega arith) ∙ ap (λ (xs : List Place). take n ps ++ d ∷ xs) (drop_of_length-le ps {i = suc n} (omega arith)) ∙ ap (λ (xs : List Place). xs ++ d ∷ []) (ap (λ m. take (m - 1) ps) c.len.ensures ∙ sym c.pop.ensures.rest) in
     record {
       outs_are = popped_has out_channel (get nat_eq c.leave.new.outs) (slice_set ps n d) (done_has out_channel (get nat_eq h.outs) ps h.outs_are n d p c.at-place.ensures (get nat_eq c.leave.new.outs) refl c.leave.ensures.outs) c.pop.new.self.items d refl e;
       ins_are = popped_has in_channel (get nat_eq c.leave.new.ins) (slice_set ps n d) (done_has in_channel (get nat_eq h.ins) ps h.ins_are n d p c.at-place.ensures (get nat_eq c.leave.new.ins) refl c.leave.ensures.ins) c.pop.new.self.items d refl e;
