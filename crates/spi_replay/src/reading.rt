@@ -9,11 +9,20 @@ ghost use Rattle.spi_replay.specs.Waiting.{wait_within, wait_largest};
 use crate::waits::Wait;
 use spi_intern::{MsgId, MsgPart, Store};
 
-// A node over what has so many.
-fn one_more(below: u64) -> u64
-    ensures { result ≡ stopped (1 + below) }
+// How many nodes there are after so many, with those of the message with a number.
+fn nodes_after(store: &Store, id: MsgId, before: u64) -> u64
+    requires { id.place < length store.now.messages }
+    ensures { result ≡ stopped (before + message_size (message_at store.now.messages id)) }
 {
-    below.saturating_add(1)
+    let here = before.saturating_add(1);
+    match store.part(id) {
+        MsgPart::Bound(_) | MsgPart::Name(_) | MsgPart::Unit => here,
+        MsgPart::Pair(a, b) | MsgPart::Enc(a, b) => {
+            let first = nodes_after(store, a, here);
+            nodes_after(store, b, first)
+        }
+        MsgPart::Inl(a) | MsgPart::Inr(a) | MsgPart::Hash(a) => nodes_after(store, a, here),
+    }
 }
 
 /// How many nodes the message with a number has. The count stops at u64's greatest value.
@@ -21,13 +30,7 @@ pub fn nodes_of(store: &Store, id: MsgId) -> u64
     requires { id.place < length store.now.messages }
     ensures { result ≡ stopped (message_size (message_at store.now.messages id)) }
 {
-    match store.part(id) {
-        MsgPart::Bound(_) | MsgPart::Name(_) | MsgPart::Unit => 1,
-        MsgPart::Pair(a, b) | MsgPart::Enc(a, b) => one_more(nodes_of(store, a).saturating_add(
-            nodes_of(store, b),
-        )),
-        MsgPart::Inl(a) | MsgPart::Inr(a) | MsgPart::Hash(a) => one_more(nodes_of(store, a)),
-    }
+    nodes_after(store, id, 0)
 }
 
 /// The nodes of the largest message that an act binds to a name or shows.
