@@ -1,5 +1,5 @@
 ghost use Rattle.std.specs.Prelude.{◌≡◌, ◌≤◌, ◌↔◌, take, length, IsSome, IfSome};
-ghost use Rattle.std.specs.Str.{IsUtf8};
+ghost use Rattle.std.specs.Str.{IsUtf8, IsCharBoundary};
 
 use std::{fmt, str};
 
@@ -34,6 +34,23 @@ impl Short {
         Some(Short {
             bytes,
             len: s.len() as u8,
+        })
+    }
+
+    /// The first bytes of a text, up to where a character ends. So many bytes are copied at once as a value has.
+    #[inline]
+    pub(crate) fn front(s: &str, len: usize) -> Option<Short>
+        requires { IsCharBoundary s.now len }
+        ensures { IfSome result (λ short. short_bytes short ≡ take len s.now) }
+    {
+        if (len > SIZE) | (s.len() < SIZE) {
+            return None;
+        }
+        let mut bytes = [0; SIZE];
+        bytes.copy_from_slice(&s.as_bytes()[..SIZE]);
+        Some(Short {
+            bytes,
+            len: len as u8,
         })
     }
 
