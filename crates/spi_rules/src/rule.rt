@@ -1,8 +1,7 @@
 // The rules of the two tables by name.
 
-ghost use Rattle.std.specs.Prelude.{◌≡◌, ◌≤◌, IfSome, IsNone};
+ghost use Rattle.std.specs.Prelude.{◌≡◌, ◌≤◌, ◌++◌, codes, IfSome, IsNone};
 ghost use Rattle.spi_rules.specs.Rule.{arity, rule_spelled, named};
-ghost use Rattle.spi_rules.specs.Fifth.{rules_by};
 
 /// A rule of the type system, named as its row in the tables of rules. `MsgHash` and `ProcEndMany` are rules of
 /// version 2 derivations.
@@ -43,6 +42,44 @@ pub enum Rule {
     ProcPar,
     ProcSub,
 }
+
+// All rules. Those that `told` overlooks stand first.
+const RULES: [Rule; 34] = [
+    Rule::ProcDecrypt,
+    Rule::ProcSplitUn,
+    Rule::ProcMatchUn,
+    Rule::ProcCheckUn,
+    Rule::ProcDecryptUn,
+    Rule::ProcEndMany,
+    Rule::MsgName,
+    Rule::MsgUnit,
+    Rule::MsgUnitUn,
+    Rule::MsgPair,
+    Rule::MsgPairUn,
+    Rule::MsgInl,
+    Rule::MsgInlUn,
+    Rule::MsgInr,
+    Rule::MsgInrUn,
+    Rule::MsgEnc,
+    Rule::MsgEncUn,
+    Rule::MsgHash,
+    Rule::ProcStop,
+    Rule::ProcOut,
+    Rule::ProcIn,
+    Rule::ProcRepeat,
+    Rule::ProcSplit,
+    Rule::ProcMatch,
+    Rule::ProcCase,
+    Rule::ProcCaseUn,
+    Rule::ProcCheck,
+    Rule::ProcBegin,
+    Rule::ProcEnd,
+    Rule::ProcCast,
+    Rule::ProcCastUn,
+    Rule::ProcNew,
+    Rule::ProcPar,
+    Rule::ProcSub,
+];
 
 impl Rule {
     /// How many derivations of premises stand under a use of the rule, from 0 to 3.
@@ -126,59 +163,73 @@ impl Rule {
         }
     }
 
-    /// The rule with this name, and none exactly where no rule has it. It looks at the rules with the same fifth byte alone,
-    /// at eight of them at most.
+    /// The rule with this name, and none exactly where no rule has it. Most names are told by their bytes, and for another
+    /// word the names are gone over.
     pub fn of_word(word: &str) -> Option<Rule>
         ensures some { IfSome result (λ rule. rule_spelled rule ≡ word.now) }
         ensures none { IsNone result → (rule : Rule) → rule_spelled rule ≡ word.now → ⊥ }
     {
-        match word.as_bytes().get(4) {
-            Some(byte) => named(rules_by(*byte), word),
-            None => None,
+        match told(word.as_bytes()) {
+            Some(rule) => Some(rule),
+            None => named(&RULES, word),
         }
     }
 }
 
-// The rules whose names have this fifth byte.
-fn rules_by(byte: u8) -> &'static [Rule]
-    ensures { result.now ≡ rules_by byte }
+// The rule for messages whose name goes on so.
+fn told_of_messages(rest: &[u8]) -> Option<Rule>
+    ensures { IfSome result (λ rule. rule_spelled rule ≡ codes "Msg" ++ rest.now) }
 {
-    match byte {
-        b'B' => &[Rule::ProcBegin],
-        b'C' => &[
-            Rule::ProcCase,
-            Rule::ProcCaseUn,
-            Rule::ProcCheck,
-            Rule::ProcCheckUn,
-            Rule::ProcCast,
-            Rule::ProcCastUn,
-        ],
-        b'D' => &[Rule::ProcDecrypt, Rule::ProcDecryptUn],
-        b'E' => &[Rule::ProcEnd, Rule::ProcEndMany],
-        b'I' => &[Rule::ProcIn],
-        b'M' => &[Rule::ProcMatch, Rule::ProcMatchUn],
-        b'N' => &[Rule::ProcNew],
-        b'O' => &[Rule::ProcOut],
-        b'P' => &[Rule::ProcPar],
-        b'R' => &[Rule::ProcRepeat],
-        b'S' => &[
-            Rule::ProcStop,
-            Rule::ProcSplit,
-            Rule::ProcSplitUn,
-            Rule::ProcSub,
-        ],
-        b'a' => &[Rule::MsgName, Rule::MsgPair, Rule::MsgPairUn, Rule::MsgHash],
-        b'n' => &[
-            Rule::MsgUnit,
-            Rule::MsgUnitUn,
-            Rule::MsgInl,
-            Rule::MsgInlUn,
-            Rule::MsgInr,
-            Rule::MsgInrUn,
-            Rule::MsgEnc,
-            Rule::MsgEncUn,
-        ],
-        _ => &[],
+    match rest {
+        [b'N', b'a', b'm', b'e'] => Some(Rule::MsgName),
+        [b'U', b'n', b'i', b't'] => Some(Rule::MsgUnit),
+        [b'U', b'n', b'i', b't', b'U', b'n'] => Some(Rule::MsgUnitUn),
+        [b'P', b'a', b'i', b'r'] => Some(Rule::MsgPair),
+        [b'P', b'a', b'i', b'r', b'U', b'n'] => Some(Rule::MsgPairUn),
+        [b'I', b'n', b'l'] => Some(Rule::MsgInl),
+        [b'I', b'n', b'l', b'U', b'n'] => Some(Rule::MsgInlUn),
+        [b'I', b'n', b'r'] => Some(Rule::MsgInr),
+        [b'I', b'n', b'r', b'U', b'n'] => Some(Rule::MsgInrUn),
+        [b'E', b'n', b'c'] => Some(Rule::MsgEnc),
+        [b'E', b'n', b'c', b'U', b'n'] => Some(Rule::MsgEncUn),
+        [b'H', b'a', b's', b'h'] => Some(Rule::MsgHash),
+        _ => None,
+    }
+}
+
+// The rule for processes whose name goes on so, by six bytes at most.
+fn told_of_processes(rest: &[u8]) -> Option<Rule>
+    ensures { IfSome result (λ rule. rule_spelled rule ≡ codes "Proc" ++ rest.now) }
+{
+    match rest {
+        [b'S', b't', b'o', b'p'] => Some(Rule::ProcStop),
+        [b'O', b'u', b't'] => Some(Rule::ProcOut),
+        [b'I', b'n'] => Some(Rule::ProcIn),
+        [b'R', b'e', b'p', b'e', b'a', b't'] => Some(Rule::ProcRepeat),
+        [b'S', b'p', b'l', b'i', b't'] => Some(Rule::ProcSplit),
+        [b'M', b'a', b't', b'c', b'h'] => Some(Rule::ProcMatch),
+        [b'C', b'a', b's', b'e'] => Some(Rule::ProcCase),
+        [b'C', b'a', b's', b'e', b'U', b'n'] => Some(Rule::ProcCaseUn),
+        [b'C', b'h', b'e', b'c', b'k'] => Some(Rule::ProcCheck),
+        [b'B', b'e', b'g', b'i', b'n'] => Some(Rule::ProcBegin),
+        [b'E', b'n', b'd'] => Some(Rule::ProcEnd),
+        [b'C', b'a', b's', b't'] => Some(Rule::ProcCast),
+        [b'C', b'a', b's', b't', b'U', b'n'] => Some(Rule::ProcCastUn),
+        [b'N', b'e', b'w'] => Some(Rule::ProcNew),
+        [b'P', b'a', b'r'] => Some(Rule::ProcPar),
+        [b'S', b'u', b'b'] => Some(Rule::ProcSub),
+        _ => None,
+    }
+}
+
+// The rule with this name. Six long ones are overlooked.
+fn told(name: &[u8]) -> Option<Rule>
+    ensures { IfSome result (λ rule. rule_spelled rule ≡ name.now) }
+{
+    match name {
+        [b'M', b's', b'g', rest @ ..] => told_of_messages(rest),
+        [b'P', b'r', b'o', b'c', rest @ ..] => told_of_processes(rest),
+        _ => None,
     }
 }
 

@@ -2,7 +2,7 @@ use Rattle.std.proofs.Common.{ℕ, List, slice_get, ap, sym, ◌∙◌}
 use Rattle.spi_lex.specs.declared.token.Reserved.{Reserved}
 use Rattle.spi_lex.specs.Words.{word_of}
 use Rattle.spi_lex.proofs.Initials.{found_by_initial}
-use Rattle.spi_lex.proofs.words.reserved_of.Goals as goal
+use Rattle.spi_lex.proofs.words.word_from.Goals as goal
 
 pub returns-in-Some : goal.returns-in-Some
 returns-in-Some c =
