@@ -12,7 +12,7 @@ use Rattle.spi_intern.specs.declared.types.TyNode.{TyNode}
 use Rattle.spi_intern.specs.declared.store.Store.{Store}
 use Rattle.spi_intern.specs.Meaning.{KindMeans, Means, Keeps}
 use Rattle.spi_intern.specs.Parts.{PartOf, message_of, InEffect, in_first, in_later, InTy, in_pair_first, in_pair_second, in_sum_left, in_sum_right, in_key, in_nonce, TyPartOf, whole_ty, of_pair_first, of_pair_second, of_sum_left, of_sum_right, of_payload}
-use Rattle.spi_intern.specs.Growing.{Has, HasTy, AddsMessages, AddsTypes, Adds, a_message, a_type}
+use Rattle.spi_intern.specs.Growing.{Has, HasTy, AddsMessages, AddsTypes, Adds, a_message, a_type, over_types}
 use Rattle.spi_intern.proofs.Lists.{get_push}
 use Rattle.spi_intern.proofs.Grown.{has_kept, interned_adds}
 use Rattle.spi_intern.proofs.Meanings.{NodeMeans, means_keeps, kind_keeps}
@@ -102,15 +102,19 @@ adds_unit e h = adds_leaf unit_leaf e h
 rest_of : {ks bs cs : List Message} {M : Message → Type 0} → AddsMessages ks bs M → cs ≡ bs → AddsMessages ks cs M
 rest_of {ks} {M = M} f e = subst (λ zs. AddsMessages ks zs M) (sym e) f
 
+-- and where nothing but types is put
+beside : {ks bs cs : List Message} {M : Message → Type 0} → AddsMessages ks bs M → KeepsAll bs cs → AddsMessages bs cs (λ x. ⊥) → AddsMessages ks cs M
+beside f k g = adds_as (λ x h. ⊎_elim (λ m. m) (λ n. absurd n) h) (λ x m. inl m) (adds_more f k g)
+
 -- a type over two others
 data IsOverTwo (t u : Ty) : Ty → Type 0 where
   pair_over_two : IsOverTwo t u (pair_ty t u)
   sum_over_two : IsOverTwo t u (sum_ty t u)
 
-adds_over_two : {s p q r : Store} {t u v : Ty} → IsOverTwo t u v → Adds s p (a_type t) → Keeps p q → Adds p q (a_type u) → Keeps q r → r.messages ≡ q.messages → AddsTypes q r (λ w. w ≡ v) → Adds s r (a_type v)
-adds_over_two {t = t} {u = u} o f k g l e h = record {
-  messages = rest_of (adds_as (to o) (from o) (adds_more f.messages k.messages g.messages)) e;
-  types = types_as (up o) (down o) (types_more (types_more f.types k g.types) l h);
+adds_over_two : {s p q r : Store} {t u v : Ty} → IsOverTwo t u v → Adds s p (a_type t) → Keeps p q → Adds p q (a_type u) → Keeps q r → Adds q r (over_types v) → Adds s r (a_type v)
+adds_over_two {t = t} {u = u} o f k g l h = record {
+  messages = beside (adds_as (to o) (from o) (adds_more f.messages k.messages g.messages)) l.messages h.messages;
+  types = types_as (up o) (down o) (types_more (types_more f.types k g.types) l h.types);
 }
   where
     to : {z : Ty} → IsOverTwo t u z → (x : Message) → InTy x t ⊎ InTy x u → InTy x z
@@ -140,16 +144,16 @@ adds_over_two {t = t} {u = u} o f k g l e h = record {
     down sum_over_two w (of_sum_left a) = inl (inl a)
     down sum_over_two w (of_sum_right b) = inl (inr b)
 
-pub adds_pair : {s p q r : Store} {t u : Ty} → Adds s p (a_type t) → Keeps p q → Adds p q (a_type u) → Keeps q r → r.messages ≡ q.messages → AddsTypes q r (λ v. v ≡ pair_ty t u) → Adds s r (a_type (pair_ty t u))
-adds_pair f k g l e h = adds_over_two pair_over_two f k g l e h
+pub adds_pair : {s p q r : Store} {t u : Ty} → Adds s p (a_type t) → Keeps p q → Adds p q (a_type u) → Keeps q r → Adds q r (over_types (pair_ty t u)) → Adds s r (a_type (pair_ty t u))
+adds_pair f k g l h = adds_over_two pair_over_two f k g l h
 
-pub adds_sum : {s p q r : Store} {t u : Ty} → Adds s p (a_type t) → Keeps p q → Adds p q (a_type u) → Keeps q r → r.messages ≡ q.messages → AddsTypes q r (λ v. v ≡ sum_ty t u) → Adds s r (a_type (sum_ty t u))
-adds_sum f k g l e h = adds_over_two sum_over_two f k g l e h
+pub adds_sum : {s p q r : Store} {t u : Ty} → Adds s p (a_type t) → Keeps p q → Adds p q (a_type u) → Keeps q r → Adds q r (over_types (sum_ty t u)) → Adds s r (a_type (sum_ty t u))
+adds_sum f k g l h = adds_over_two sum_over_two f k g l h
 
-pub adds_key : {s q r : Store} {t : Ty} → Adds s q (a_type t) → Keeps q r → r.messages ≡ q.messages → AddsTypes q r (λ v. v ≡ key t) → Adds s r (a_type (key t))
-adds_key {t = t} f l e h = record {
-  messages = rest_of (adds_as (λ x a. in_key a) from f.messages) e;
-  types = types_as up down (types_more f.types l h);
+pub adds_key : {s q r : Store} {t : Ty} → Adds s q (a_type t) → Keeps q r → Adds q r (over_types (key t)) → Adds s r (a_type (key t))
+adds_key {t = t} f l h = record {
+  messages = beside (adds_as (λ x a. in_key a) from f.messages) l.messages h.messages;
+  types = types_as up down (types_more f.types l h.types);
 }
   where
     from : (x : Message) → InTy x (key t) → InTy x t

@@ -1,7 +1,7 @@
 // Messages with numbers.
 
 ghost use Rattle.std.specs.Prelude.{IsTrue, ◌≡◌, List, [], Some, IfOk, IfSome, OnOk, ◌<◌, ◌^◌, OnErr, slice_get, length};
-ghost use Rattle.spi_term.specs.Term.{Message, name};
+ghost use Rattle.spi_term.specs.Term.{Message, bound, name, unit};
 ghost use Rattle.spi_term.specs.View.{message};
 ghost use Rattle.spi_intern.specs.Table.{KeepsAll, AllDiffer};
 ghost use Rattle.spi_intern.specs.declared.messages.MsgPart.TheVariants as parts;
@@ -142,7 +142,7 @@ impl Messages {
         }
     }
 
-    /// The same, looked for among all.
+    /// The same, looked for among all parts.
     fn put_part(&mut self, part: MsgPart) -> Result<MsgId, NoMemory>
         requires { Says self.old part (said self.old part) }
         ensures grows { OnOk result (self.new ≡ message_added self.old (said self.old part)) }
@@ -155,7 +155,7 @@ impl Messages {
         Ok(MsgId { place })
     }
 
-    /// The number of a name, which is noted where there is room.
+    /// The number of a name, which is looked for only where no place of it was noted.
     fn put_name(&mut self, x: u32) -> Result<MsgId, NoMemory>
         ensures grows { OnOk result (self.new ≡ message_added self.old (name x)) }
         ensures same { OnErr result (self.new ≡ self.old) }
@@ -163,9 +163,21 @@ impl Messages {
         ensures kept { KeepsAll self.old self.new }
         ensures distinct { AllDiffer self.new }
     {
-        if let Some(id) = self.noted(x) {
-            return Ok(id);
+        match self.noted(x) {
+            Some(id) => Ok(id),
+            None => self.put_noted(x),
         }
+    }
+
+    /// The number of a name, which is noted where there is room. It stays a function of its own, as it is seldom called.
+    #[inline(never)]
+    fn put_noted(&mut self, x: u32) -> Result<MsgId, NoMemory>
+        ensures grows { OnOk result (self.new ≡ message_added self.old (name x)) }
+        ensures same { OnErr result (self.new ≡ self.old) }
+        ensures at { IfOk result (λ id. slice_get self.new id.place ≡ Some (name x)) }
+        ensures kept { KeepsAll self.old self.new }
+        ensures distinct { AllDiffer self.new }
+    {
         let id = self.put_part(MsgPart::Name(x))?;
         self.note(x, id.place);
         Ok(id)
@@ -195,7 +207,87 @@ impl Messages {
         }
     }
 
+    /// The number of a bound variable.
+    fn put_bound(&mut self, i: u32) -> Result<MsgId, NoMemory>
+        ensures grows { OnOk result (self.new ≡ message_added self.old (bound i)) }
+        ensures at { IfOk result (λ id. slice_get self.new id.place ≡ Some (bound i)) }
+        ensures kept { KeepsAll self.old self.new }
+        ensures distinct { AllDiffer self.new }
+    {
+        self.put_part(MsgPart::Bound(i))
+    }
+
+    /// The number of the unit.
+    fn put_unit(&mut self) -> Result<MsgId, NoMemory>
+        ensures grows { OnOk result (self.new ≡ message_added self.old unit) }
+        ensures at { IfOk result (λ id. slice_get self.new id.place ≡ Some unit) }
+        ensures kept { KeepsAll self.old self.new }
+        ensures distinct { AllDiffer self.new }
+    {
+        self.put_part(MsgPart::Unit)
+    }
+
+    /// The number of a pair of messages with these numbers.
+    fn put_pair(&mut self, first: MsgId, second: MsgId) -> Result<MsgId, NoMemory>
+        requires { Says self.old (parts.Pair first second) (said self.old (parts.Pair first second)) }
+        ensures grows { OnOk result
+            (self.new ≡ message_added self.old (said self.old (parts.Pair first second))) }
+        ensures at { IfOk result
+            (λ id. slice_get self.new id.place ≡ Some (said self.old (parts.Pair first second))) }
+        ensures kept { KeepsAll self.old self.new }
+        ensures distinct { AllDiffer self.new }
+    {
+        self.put_part(MsgPart::Pair(first, second))
+    }
+
+    /// The number of the left injection of the message with this number.
+    fn put_left(&mut self, part: MsgId) -> Result<MsgId, NoMemory>
+        requires { Says self.old (parts.Inl part) (said self.old (parts.Inl part)) }
+        ensures grows { OnOk result (self.new ≡ message_added self.old (said self.old (parts.Inl part))) }
+        ensures at { IfOk result (λ id. slice_get self.new id.place ≡ Some (said self.old (parts.Inl part))) }
+        ensures kept { KeepsAll self.old self.new }
+        ensures distinct { AllDiffer self.new }
+    {
+        self.put_part(MsgPart::Inl(part))
+    }
+
+    /// The number of the right injection of the message with this number.
+    fn put_right(&mut self, part: MsgId) -> Result<MsgId, NoMemory>
+        requires { Says self.old (parts.Inr part) (said self.old (parts.Inr part)) }
+        ensures grows { OnOk result (self.new ≡ message_added self.old (said self.old (parts.Inr part))) }
+        ensures at { IfOk result (λ id. slice_get self.new id.place ≡ Some (said self.old (parts.Inr part))) }
+        ensures kept { KeepsAll self.old self.new }
+        ensures distinct { AllDiffer self.new }
+    {
+        self.put_part(MsgPart::Inr(part))
+    }
+
+    /// The number of an encryption of the message with the first number under that with the second one.
+    fn put_enc(&mut self, body: MsgId, key: MsgId) -> Result<MsgId, NoMemory>
+        requires { Says self.old (parts.Enc body key) (said self.old (parts.Enc body key)) }
+        ensures grows { OnOk result (self.new ≡ message_added self.old (said self.old (parts.Enc body key))) }
+        ensures at { IfOk result
+            (λ id. slice_get self.new id.place ≡ Some (said self.old (parts.Enc body key))) }
+        ensures kept { KeepsAll self.old self.new }
+        ensures distinct { AllDiffer self.new }
+    {
+        self.put_part(MsgPart::Enc(body, key))
+    }
+
+    /// The number of the hash of the message with this number.
+    fn put_hash(&mut self, part: MsgId) -> Result<MsgId, NoMemory>
+        requires { Says self.old (parts.Hash part) (said self.old (parts.Hash part)) }
+        ensures grows { OnOk result (self.new ≡ message_added self.old (said self.old (parts.Hash part))) }
+        ensures at { IfOk result
+            (λ id. slice_get self.new id.place ≡ Some (said self.old (parts.Hash part))) }
+        ensures kept { KeepsAll self.old self.new }
+        ensures distinct { AllDiffer self.new }
+    {
+        self.put_part(MsgPart::Hash(part))
+    }
+
     /// The number of a message. Its parts get numbers first.
+    #[cycle(intern)]
     pub fn intern(&mut self, m: &Msg) -> Result<MsgId, NoMemory>
         ensures grows { OnOk result (self.new ≡ interned self.old (message m.now)) }
         ensures at { IfOk result (λ id. slice_get self.new id.place ≡ Some (message m.now)) }
@@ -203,30 +295,45 @@ impl Messages {
         ensures distinct { AllDiffer self.new }
     {
         match m {
-            Msg::Bound(i) => self.put(MsgPart::Bound(*i)),
-            Msg::Name(x) => self.put(MsgPart::Name(*x)),
-            Msg::Unit => self.put(MsgPart::Unit),
+            Msg::Name(x) => self.put_name(*x),
+            _ => self.intern_parts(m),
+        }
+    }
+
+    /// The same for a message that may have parts. It stays a function of its own, so that a name pays nothing for it.
+    #[cycle(intern)]
+    #[inline(never)]
+    fn intern_parts(&mut self, m: &Msg) -> Result<MsgId, NoMemory>
+        ensures grows { OnOk result (self.new ≡ interned self.old (message m.now)) }
+        ensures at { IfOk result (λ id. slice_get self.new id.place ≡ Some (message m.now)) }
+        ensures kept { KeepsAll self.old self.new }
+        ensures distinct { AllDiffer self.new }
+    {
+        match m {
+            Msg::Bound(i) => self.put_bound(*i),
+            Msg::Name(x) => self.put_name(*x),
+            Msg::Unit => self.put_unit(),
             Msg::Pair(a, b) => {
                 let first = self.intern(a)?;
                 let second = self.intern(b)?;
-                self.put(MsgPart::Pair(first, second))
+                self.put_pair(first, second)
             }
             Msg::Inl(a) => {
                 let part = self.intern(a)?;
-                self.put(MsgPart::Inl(part))
+                self.put_left(part)
             }
             Msg::Inr(a) => {
                 let part = self.intern(a)?;
-                self.put(MsgPart::Inr(part))
+                self.put_right(part)
             }
             Msg::Enc(a, b) => {
                 let body = self.intern(a)?;
                 let key = self.intern(b)?;
-                self.put(MsgPart::Enc(body, key))
+                self.put_enc(body, key)
             }
             Msg::Hash(a) => {
                 let part = self.intern(a)?;
-                self.put(MsgPart::Hash(part))
+                self.put_hash(part)
             }
         }
     }

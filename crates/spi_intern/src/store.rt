@@ -9,7 +9,7 @@ ghost use Rattle.spi_intern.specs.declared.atoms.AtomId.{AtomId};
 ghost use Rattle.spi_intern.specs.Messages.{Says};
 ghost use Rattle.spi_intern.specs.Atoms.{SaysAtom, IdsMean};
 ghost use Rattle.spi_intern.specs.Typed.{SaysKind, said_kind};
-ghost use Rattle.spi_intern.specs.Kinds.{same_kind};
+ghost use Rattle.spi_intern.specs.Kinds.{un, unit, nonce, same_kind};
 ghost use Rattle.spi_intern.specs.Table.{AllDiffer, TellsAll, with_value};
 ghost use Rattle.spi_intern.specs.Meaning.{Means, Keeps, NoneTwice};
 ghost use Rattle.spi_intern.specs.Parts.{InEffect};
@@ -224,6 +224,39 @@ impl Store {
         self.types.put(node)
     }
 
+    // The number of `Un`.
+    fn put_un(&mut self) -> Result<TyId, NoMemory>
+        ensures at { IfOk result (λ id. slice_get self.new.types id.place ≡ Some un) }
+        ensures grows { OnOk result (self.new.types ≡ with_value same_kind self.old.types un) }
+        ensures kept { Keeps self.old self.new }
+        ensures messages { self.new.messages ≡ self.old.messages }
+        ensures effects { self.new.effects ≡ self.old.effects }
+    {
+        self.types.put_un()
+    }
+
+    // The number of the unit type.
+    fn put_unit(&mut self) -> Result<TyId, NoMemory>
+        ensures at { IfOk result (λ id. slice_get self.new.types id.place ≡ Some unit) }
+        ensures grows { OnOk result (self.new.types ≡ with_value same_kind self.old.types unit) }
+        ensures kept { Keeps self.old self.new }
+        ensures messages { self.new.messages ≡ self.old.messages }
+        ensures effects { self.new.effects ≡ self.old.effects }
+    {
+        self.put(TyNode::Unit)
+    }
+
+    // The number of the Nonce type with the effect that has this number.
+    fn put_nonce(&mut self, place: usize) -> Result<TyId, NoMemory>
+        ensures at { IfOk result (λ id. slice_get self.new.types id.place ≡ Some (nonce place)) }
+        ensures grows { OnOk result (self.new.types ≡ with_value same_kind self.old.types (nonce place)) }
+        ensures kept { Keeps self.old self.new }
+        ensures messages { self.new.messages ≡ self.old.messages }
+        ensures effects { self.new.effects ≡ self.old.effects }
+    {
+        self.put(TyNode::Nonce(place))
+    }
+
     // The number of an effect.
     fn effect(&mut self, alloc: Global, e: &Effect) -> Result<usize, NoMemory>
         ensures at { IfOk result
@@ -249,33 +282,51 @@ impl Store {
     {
         match t {
             Ty::Un => {
-                let id = self.put(TyNode::Un)?;
+                let id = self.put_un()?;
+                Ok(id)
+            }
+            _ => {
+                let id = self.intern_parts(alloc, t)?;
+                Ok(id)
+            }
+        }
+    }
+
+    // The same for a type that may have parts.
+    fn intern_parts(&mut self, alloc: Global, t: &Ty) -> Result<TyId, NoMemory>
+        ensures at { IfOk result (λ id. Means self.new id.place (ty t.now)) }
+        ensures adds { IfOk result (λ id. Adds self.old self.new (a_type (ty t.now))) }
+        ensures kept { Keeps self.old self.new }
+    {
+        match t {
+            Ty::Un => {
+                let id = self.put_un()?;
                 Ok(id)
             }
             Ty::Unit => {
-                let id = self.put(TyNode::Unit)?;
+                let id = self.put_unit()?;
                 Ok(id)
             }
             Ty::Pair(a, b) => {
-                let first = self.intern(alloc, a)?;
-                let second = self.intern(alloc, b)?;
-                let id = self.put(TyNode::Pair(first, second))?;
+                let first = self.intern_parts(alloc, a)?;
+                let second = self.intern_parts(alloc, b)?;
+                let id = self.pair_over(first, second)?;
                 Ok(id)
             }
             Ty::Sum(a, b) => {
-                let first = self.intern(alloc, a)?;
-                let second = self.intern(alloc, b)?;
-                let id = self.put(TyNode::Sum(first, second))?;
+                let first = self.intern_parts(alloc, a)?;
+                let second = self.intern_parts(alloc, b)?;
+                let id = self.sum_over(first, second)?;
                 Ok(id)
             }
             Ty::Key(a) => {
-                let part = self.intern(alloc, a)?;
-                let id = self.put(TyNode::Key(part))?;
+                let part = self.intern_parts(alloc, a)?;
+                let id = self.key_over(part)?;
                 Ok(id)
             }
             Ty::Nonce(e) => {
                 let place = self.effect(alloc, e)?;
-                let id = self.put(TyNode::Nonce(place))?;
+                let id = self.put_nonce(place)?;
                 Ok(id)
             }
         }

@@ -1,9 +1,5 @@
-use Rattle.spi_intern.specs.Messages.{says_name}
 use Rattle.spi_intern.proofs.MessageLaws.{name_there}
 use Rattle.spi_intern.proofs.messages.Messages.put_name.Goals as goal
 
 pub returns-in-Some-clause-grows : goal.returns-in-Some-clause-grows
 returns-in-Some-clause-grows c = name_there c.args.self.now c.in-Some.id.place c.args.x c.in-Some.ensures.some
-
-pub put_part-requires : goal.put_part-requires
-put_part-requires c = says_name
