@@ -85,3 +85,19 @@ form_kind (t.cast s m x a p) = typed_form
 form_kind (t.new s x a p) = opening_form
 form_kind (t.stop s) = other_form
 form_kind (t.group s p q) = other_form
+
+-- how a message is read: tuples and encrypted messages have several messages in them
+pub data MessageForm : Type 0 where
+  tuple_form : MessageForm
+  enc_form : MessageForm
+  other_message : MessageForm
+
+abbrev pub message_form : t.Msg → MessageForm
+message_form (t.name s w) = other_message
+message_form (t.unit s) = other_message
+message_form (t.tuple s a b ms) = tuple_form
+message_form (t.inl s a) = other_message
+message_form (t.inr s a) = other_message
+message_form (t.enc s a b) = enc_form
+message_form (t.hash s a) = other_message
+message_form (t.num s i) = other_message

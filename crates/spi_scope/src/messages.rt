@@ -2,7 +2,7 @@
 
 ghost use Rattle.std.specs.Prelude.{◌≡◌, ◌⊎◌, ◌+◌, ◌<◌, ◌≤◌, ◌∷◌, map, length, IfOk, IfErr, Some, Ok, Err};
 ghost use Rattle.spi_tree.specs.Views.{msg_of};
-ghost use Rattle.spi_tree.specs.Trees.{msgs_of_list};
+ghost use Rattle.spi_tree.specs.Trees.{inl, inr, hash, no_msgs, more_msgs, msgs_of_list, nowhere};
 ghost use Rattle.spi_term.specs.Term.{message_size, unit, pair};
 ghost use Rattle.spi_term.specs.View.{message};
 ghost use Rattle.spi_scope.specs.declared.fault.ScopeFault.TheVariants.{NoMemory as OutOfMemory};
@@ -11,6 +11,7 @@ ghost use Rattle.spi_scope.specs.Meaning.{name_meant, nested, message_in, messag
 ghost use Rattle.spi_scope.specs.Points.{one, uses_name, message_points, messages_points};
 ghost use Rattle.spi_scope.specs.Gives.{CountsOn, run};
 ghost use Rattle.spi_scope.specs.State.{row_nodes};
+ghost use Rattle.spi_scope.specs.Forms.{message_form, tuple_form, enc_form};
 
 use crate::fault::ScopeFault;
 use crate::scope::Scope;
@@ -129,6 +130,30 @@ pub fn read_message(
     match m {
         SMsg::Name { name, .. } => read_name(alloc, scope, base, spent, name),
         SMsg::Unit { .. } => Ok((Msg::Unit, spent.saturating_add(1))),
+        SMsg::Tuple { .. } => read_tuple(alloc, scope, base, spent, m),
+        SMsg::Inl { part, .. } => read_inl(alloc, scope, base, spent, part),
+        SMsg::Inr { part, .. } => read_inr(alloc, scope, base, spent, part),
+        SMsg::Enc { .. } => read_enc(alloc, scope, base, spent, m),
+        SMsg::Hash { part, .. } => read_hash(alloc, scope, base, spent, part),
+        SMsg::Num { .. } => Ok((Msg::Unit, spent.saturating_add(1))),
+    }
+}
+
+/// A tuple, as any message.
+#[cycle(messages)]
+fn read_tuple(
+    alloc: Global,
+    scope: &Scope,
+    base: u32,
+    spent: u64,
+    m: &SMsg,
+) -> Result<(Msg, u64), ScopeFault>
+    requires { message_form (msg_of m.now) ≡ tuple_form }
+    ensures { CountsOn message message_size result
+        (run (message_points scope.now.held.names (msg_of m.now)) scope.now.count) scope.now.count spent
+        (message_in base scope.now.held.names (msg_of m.now)) }
+{
+    match m {
         SMsg::Tuple {
             first,
             second,
@@ -141,29 +166,100 @@ pub fn read_message(
             let whole = paired(alloc, first, rest)?;
             Ok((whole, total))
         }
-        SMsg::Inl { part, .. } => {
-            let part = read_message(alloc, scope, base, spent.saturating_add(1), part);
-            let (part, total) = boxed(alloc, part)?;
-            Ok((Msg::Inl(part), total))
-        }
-        SMsg::Inr { part, .. } => {
-            let part = read_message(alloc, scope, base, spent.saturating_add(1), part);
-            let (part, total) = boxed(alloc, part)?;
-            Ok((Msg::Inr(part), total))
-        }
+        _ => unreachable!(),
+    }
+}
+
+/// The message in a box, with its nodes counted on.
+#[cycle(messages)]
+fn read_boxed(
+    alloc: Global,
+    scope: &Scope,
+    base: u32,
+    spent: u64,
+    m: &SMsg,
+) -> Result<(Box<Msg>, u64), ScopeFault>
+    ensures { CountsOn (λ b. message b.value) message_size result
+        (run (message_points scope.now.held.names (msg_of m.now)) scope.now.count) scope.now.count spent
+        (message_in base scope.now.held.names (msg_of m.now)) }
+{
+    let (read, total) = read_message(alloc, scope, base, spent, m)?;
+    Ok((Box::new(alloc, read)?, total))
+}
+
+/// The message `inl(M)` of this one.
+#[cycle(messages)]
+fn read_inl(
+    alloc: Global,
+    scope: &Scope,
+    base: u32,
+    spent: u64,
+    part: &SMsg,
+) -> Result<(Msg, u64), ScopeFault>
+    ensures { CountsOn message message_size result
+        (run (message_points scope.now.held.names (inl nowhere (msg_of part.now))) scope.now.count)
+        scope.now.count spent (message_in base scope.now.held.names (inl nowhere (msg_of part.now))) }
+{
+    let (part, total) = read_boxed(alloc, scope, base, spent.saturating_add(1), part)?;
+    Ok((Msg::Inl(part), total))
+}
+
+/// The message `inr(M)` of this one.
+#[cycle(messages)]
+fn read_inr(
+    alloc: Global,
+    scope: &Scope,
+    base: u32,
+    spent: u64,
+    part: &SMsg,
+) -> Result<(Msg, u64), ScopeFault>
+    ensures { CountsOn message message_size result
+        (run (message_points scope.now.held.names (inr nowhere (msg_of part.now))) scope.now.count)
+        scope.now.count spent (message_in base scope.now.held.names (inr nowhere (msg_of part.now))) }
+{
+    let (part, total) = read_boxed(alloc, scope, base, spent.saturating_add(1), part)?;
+    Ok((Msg::Inr(part), total))
+}
+
+/// An encrypted message, as any message.
+#[cycle(messages)]
+fn read_enc(
+    alloc: Global,
+    scope: &Scope,
+    base: u32,
+    spent: u64,
+    m: &SMsg,
+) -> Result<(Msg, u64), ScopeFault>
+    requires { message_form (msg_of m.now) ≡ enc_form }
+    ensures { CountsOn message message_size result
+        (run (message_points scope.now.held.names (msg_of m.now)) scope.now.count) scope.now.count spent
+        (message_in base scope.now.held.names (msg_of m.now)) }
+{
+    match m {
         SMsg::Enc { body, key, .. } => {
-            let body = read_message(alloc, scope, base, spent.saturating_add(1), body);
-            let (body, total) = boxed(alloc, body)?;
-            let (key, total) = boxed(alloc, read_message(alloc, scope, base, total, key))?;
+            let (body, total) = read_boxed(alloc, scope, base, spent.saturating_add(1), body)?;
+            let (key, total) = read_boxed(alloc, scope, base, total, key)?;
             Ok((Msg::Enc(body, key), total))
         }
-        SMsg::Hash { part, .. } => {
-            let part = read_message(alloc, scope, base, spent.saturating_add(1), part);
-            let (part, total) = boxed(alloc, part)?;
-            Ok((Msg::Hash(part), total))
-        }
-        SMsg::Num { .. } => Ok((Msg::Unit, spent.saturating_add(1))),
+        _ => unreachable!(),
     }
+}
+
+/// The message `hash(M)` of this one.
+#[cycle(messages)]
+fn read_hash(
+    alloc: Global,
+    scope: &Scope,
+    base: u32,
+    spent: u64,
+    part: &SMsg,
+) -> Result<(Msg, u64), ScopeFault>
+    ensures { CountsOn message message_size result
+        (run (message_points scope.now.held.names (hash nowhere (msg_of part.now))) scope.now.count)
+        scope.now.count spent (message_in base scope.now.held.names (hash nowhere (msg_of part.now))) }
+{
+    let (part, total) = read_boxed(alloc, scope, base, spent.saturating_add(1), part)?;
+    Ok((Msg::Hash(part), total))
 }
 
 /// The second component of a tuple with those behind it, nested to the right, with the nodes of these and of the pairs
@@ -185,17 +281,51 @@ fn read_more(
 {
     match more {
         [] => Ok((next, spent)),
-        [last] => {
-            let (last, total) = read_message(alloc, scope, base, spent.saturating_add(1), last)?;
-            let whole = paired(alloc, next, last)?;
-            Ok((whole, total))
-        }
-        _ => {
-            let (read, total) = read_messages(alloc, scope, base, spent, more)?;
-            let whole = nest_small(alloc, total, next, read)?;
-            Ok((whole, total))
-        }
+        [last] => read_last(alloc, scope, base, spent, last, next),
+        _ => read_rest(alloc, scope, base, spent, more, next),
     }
+}
+
+/// The second component of a tuple and the last, which is the one behind it.
+#[cycle(messages)]
+fn read_last(
+    alloc: Global,
+    scope: &Scope,
+    base: u32,
+    spent: u64,
+    last: &SMsg,
+    next: Msg,
+) -> Result<(Msg, u64), ScopeFault>
+    ensures { CountsOn message
+        (λ _. row_nodes (messages_in base scope.now.held.names (more_msgs (msg_of last.now) no_msgs))) result
+        (run (messages_points scope.now.held.names (more_msgs (msg_of last.now) no_msgs)) scope.now.count)
+        scope.now.count spent
+        (nested (message next) (messages_in base scope.now.held.names (more_msgs (msg_of last.now) no_msgs))) }
+{
+    let (last, total) = read_message(alloc, scope, base, spent.saturating_add(1), last)?;
+    let whole = paired(alloc, next, last)?;
+    Ok((whole, total))
+}
+
+/// The second component of a tuple with all those behind it.
+#[cycle(messages)]
+fn read_rest(
+    alloc: Global,
+    scope: &Scope,
+    base: u32,
+    spent: u64,
+    more: &[SMsg],
+    next: Msg,
+) -> Result<(Msg, u64), ScopeFault>
+    ensures { CountsOn message
+        (λ _. row_nodes (messages_in base scope.now.held.names (msgs_of_list (map msg_of more.now)))) result
+        (run (messages_points scope.now.held.names (msgs_of_list (map msg_of more.now))) scope.now.count)
+        scope.now.count spent
+        (nested (message next) (messages_in base scope.now.held.names (msgs_of_list (map msg_of more.now)))) }
+{
+    let (read, total) = read_messages(alloc, scope, base, spent, more)?;
+    let whole = nest_small(alloc, total, next, read)?;
+    Ok((whole, total))
 }
 
 /// The components of a tuple but the first two, with their nodes and those of the pairs counted on.

@@ -13,14 +13,14 @@ use Rattle.spi_scope.specs.State.{row_nodes}
 use Rattle.spi_scope.proofs.Tuples.{Counted, message_tuple}
 use Rattle.spi_scope.proofs.messages.+messages.Goals as goal
 
-pub read_message-returns-in_err-rest-in-Tuple : goal.read_message-returns-in_err-rest-in-Tuple
-read_message-returns-in_err-rest-in-Tuple t c =
+pub read_tuple-returns-in_err-rest-in-Tuple : goal.read_tuple-returns-in_err-rest-in-Tuple
+read_tuple-returns-in_err-rest-in-Tuple t c =
     let w = c.in-Tuple in
     let e : c.args.m.now ≡ Tuple w.first w.second w.more w.span = w.is in
     rw (ap msg_of e ∙ tuple_is w.first w.second w.more w.span) (search rules)
 
-pub read_message-returns-in_ok-whole-in-Tuple : goal.read_message-returns-in_ok-whole-in-Tuple
-read_message-returns-in_ok-whole-in-Tuple t c =
+pub read_tuple-returns : goal.read_tuple-returns
+read_tuple-returns t c =
     let w = c.in-Tuple in
     let e : c.args.m.now ≡ Tuple w.first w.second w.more w.span = w.is in
     let xs = c.args.scope.now.held.names in
@@ -29,9 +29,9 @@ read_message-returns-in_ok-whole-in-Tuple t c =
     let g = c.in_ok-next-in-Tuple in
     let h = c.in_ok-rest-in-Tuple in
     let h1 = subst (λ (x : SMsg). Counted message_size (message f.first) f.total (run (message_points xs (msg_of x)) k) k c.args.spent (message_in c.args.base xs (msg_of x))) c.deref.ensures f.ensures in
-    let h2 = subst (λ (x : SMsg). Counted message_size (message g.next) g.total (run (message_points xs (msg_of x)) k) k c.saturating_add-in-Tuple.result (message_in c.args.base xs (msg_of x))) c.deref-in-Tuple.ensures g.ensures in
+    let h2 = subst (λ (x : SMsg). Counted message_size (message g.next) g.total (run (message_points xs (msg_of x)) k) k c.saturating_add.result (message_in c.args.base xs (msg_of x))) c.deref-in-Tuple.ensures g.ensures in
     let h3 = subst (λ (x : List SMsg). let ms = messages_in c.args.base xs (msgs_of_list (map msg_of x)) in Counted (λ (_ : Message). row_nodes ms) (message h.rest) h.total (run (messages_points xs (msgs_of_list (map msg_of x))) k) k g.total (nested (message g.next) ms)) c.deref-in-Tuple-2.ensures.value h.ensures in
     rw (ap msg_of e ∙ tuple_is w.first w.second w.more w.span)
-    (message_tuple c.args.base c.args.spent k xs w.span (msg_of w.first.value) (msg_of w.second.value) (msgs_of_list (map msg_of w.more.items)) c.saturating_add-in-Tuple.result f.total g.total h.total
+    (message_tuple c.args.base c.args.spent k xs w.span (msg_of w.first.value) (msg_of w.second.value) (msgs_of_list (map msg_of w.more.items)) c.saturating_add.result f.total g.total h.total
     (message f.first) (message g.next) (message h.rest) (message c.in_ok-whole-in-Tuple.whole)
-    h1 c.saturating_add-in-Tuple.ensures h2 h3 c.in_ok-whole-in-Tuple.ensures)
+    h1 c.saturating_add.ensures h2 h3 c.in_ok-whole-in-Tuple.ensures)
