@@ -101,3 +101,18 @@ message_form (t.inr s a) = other_message
 message_form (t.enc s a b) = enc_form
 message_form (t.hash s a) = other_message
 message_form (t.num s i) = other_message
+
+-- how a type is read, in the same way
+pub data TypeForm : Type 0 where
+  tuple_ty_form : TypeForm
+  sum_form : TypeForm
+  other_type : TypeForm
+
+abbrev pub type_form : t.Ty → TypeForm
+type_form (t.un s) = other_type
+type_form (t.unit_ty s) = other_type
+type_form (t.tuple_ty s w a fs l) = tuple_ty_form
+type_form (t.sum s a b) = sum_form
+type_form (t.key s a) = other_type
+type_form (t.nonce s es) = other_type
+type_form (t.abbr s w) = other_type

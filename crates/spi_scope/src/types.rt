@@ -1,9 +1,9 @@
 //! Types.
 
 ghost use Rattle.std.specs.Prelude.{◌≡◌, ◌+◌, ◌≤◌, ◌∷◌, map, IfOk, OnOk};
-ghost use Rattle.spi_tree.specs.Trees.{fields_of_list};
+ghost use Rattle.spi_tree.specs.Trees.{key, fields_of_list, nowhere};
 ghost use Rattle.spi_tree.specs.Views.{msg_of, atom_of, ty_of, field_of, last_of};
-ghost use Rattle.spi_term.specs.Term.{message_size, pair_ty};
+ghost use Rattle.spi_term.specs.Term.{message_size, pair_ty, nonce};
 ghost use Rattle.spi_term.specs.Spelling.{atom_nodes, effect_nodes, ty_nodes, stopped};
 ghost use Rattle.spi_term.specs.View.{message, atom, ty};
 ghost use Rattle.spi_scope.specs.Scope.{type_of};
@@ -12,6 +12,7 @@ ghost use Rattle.spi_scope.specs.Points.{msg_span, msg_nodes, one, uses_type, me
 ghost use Rattle.spi_scope.specs.Gives.{GivesMeant, CountsOn, run};
 ghost use Rattle.spi_scope.specs.State.{abbreviations, type_row_nodes};
 ghost use Rattle.spi_scope.specs.Table.{with_names};
+ghost use Rattle.spi_scope.specs.Forms.{type_form, tuple_ty_form, sum_form};
 
 use crate::fault::ScopeFault;
 use crate::messages::{boxed, read_message};
@@ -109,6 +110,22 @@ fn read_atoms(
     Ok((read, total))
 }
 
+/// The type `Nonce e` of this effect.
+fn read_nonce(
+    alloc: Global,
+    scope: &Scope,
+    base: u32,
+    spent: u64,
+    es: &[SAtom],
+) -> Result<(Ty, u64), ScopeFault>
+    ensures { CountsOn ty ty_nodes result
+        (run (atoms_points scope.now.held.names (map atom_of es.now)) scope.now.count) scope.now.count spent
+        (nonce (effect_in base scope.now.held.names (map atom_of es.now))) }
+{
+    let (atoms, total) = read_atoms(alloc, scope, base, spent.saturating_add(1), es)?;
+    Ok((Ty::Nonce(Effect { atoms }), total))
+}
+
 /// The type of an abbreviation, which is copied only where it fits.
 fn read_abbreviation(
     alloc: Global,
@@ -189,6 +206,31 @@ pub fn read_type<'t>(
     match t {
         STy::Un { .. } => Ok((Ty::Un, spent.saturating_add(1))),
         STy::Unit { .. } => Ok((Ty::Unit, spent.saturating_add(1))),
+        STy::Tuple { .. } => read_tuple(alloc, scope, base, spent, t),
+        STy::Sum { .. } => read_sum(alloc, scope, base, spent, t),
+        STy::Key { part, .. } => read_key(alloc, scope, base, spent, part),
+        STy::Nonce { effect, .. } => read_nonce(alloc, scope, base, spent, effect),
+        STy::Abbr { name, .. } => read_abbreviation(alloc, scope, spent, name),
+    }
+}
+
+/// A tuple type, as any type.
+#[cycle(types)]
+fn read_tuple<'t>(
+    alloc: Global,
+    scope: &mut Scope<'t>,
+    base: u32,
+    spent: u64,
+    t: &'t STy,
+) -> Result<(Ty, u64), ScopeFault>
+    requires { type_form (ty_of t.now) ≡ tuple_ty_form }
+    ensures gives { CountsOn ty ty_nodes result
+        (run (type_points (abbreviations scope.old.types) scope.old.held.names (ty_of t.entry.now))
+        scope.old.count) scope.old.count spent
+        (type_in base (abbreviations scope.old.types) scope.old.held.names (ty_of t.entry.now)) }
+    ensures scope { OnOk result (scope.new ≡ scope.old) }
+{
+    match t {
         STy::Tuple {
             name,
             first,
@@ -205,23 +247,56 @@ pub fn read_type<'t>(
             let ty = nest_types(alloc, total, head, parts, tail)?;
             Ok((ty, total))
         }
+        _ => unreachable!(),
+    }
+}
+
+/// A sum type, as any type.
+#[cycle(types)]
+fn read_sum<'t>(
+    alloc: Global,
+    scope: &mut Scope<'t>,
+    base: u32,
+    spent: u64,
+    t: &'t STy,
+) -> Result<(Ty, u64), ScopeFault>
+    requires { type_form (ty_of t.now) ≡ sum_form }
+    ensures gives { CountsOn ty ty_nodes result
+        (run (type_points (abbreviations scope.old.types) scope.old.held.names (ty_of t.entry.now))
+        scope.old.count) scope.old.count spent
+        (type_in base (abbreviations scope.old.types) scope.old.held.names (ty_of t.entry.now)) }
+    ensures scope { OnOk result (scope.new ≡ scope.old) }
+{
+    match t {
         STy::Sum { left, right, .. } => {
             let left = read_type(alloc, scope, base, spent.saturating_add(1), left);
             let (left, total) = boxed(alloc, left)?;
             let (right, total) = boxed(alloc, read_type(alloc, scope, base, total, right))?;
             Ok((Ty::Sum(left, right), total))
         }
-        STy::Key { part, .. } => {
-            let part = read_type(alloc, scope, base, spent.saturating_add(1), part);
-            let (part, total) = boxed(alloc, part)?;
-            Ok((Ty::Key(part), total))
-        }
-        STy::Nonce { effect, .. } => {
-            let (atoms, total) = read_atoms(alloc, scope, base, spent.saturating_add(1), effect)?;
-            Ok((Ty::Nonce(Effect { atoms }), total))
-        }
-        STy::Abbr { name, .. } => read_abbreviation(alloc, scope, spent, name),
+        _ => unreachable!(),
     }
+}
+
+/// The type `Key(T)` of this one.
+#[cycle(types)]
+fn read_key<'t>(
+    alloc: Global,
+    scope: &mut Scope<'t>,
+    base: u32,
+    spent: u64,
+    part: &'t STy,
+) -> Result<(Ty, u64), ScopeFault>
+    ensures gives { CountsOn ty ty_nodes result
+        (run (type_points (abbreviations scope.old.types) scope.old.held.names
+        (key nowhere (ty_of part.entry.now))) scope.old.count) scope.old.count spent
+        (type_in base (abbreviations scope.old.types) scope.old.held.names
+        (key nowhere (ty_of part.entry.now))) }
+    ensures scope { OnOk result (scope.new ≡ scope.old) }
+{
+    let part = read_type(alloc, scope, base, spent.saturating_add(1), part);
+    let (part, total) = boxed(alloc, part)?;
+    Ok((Ty::Key(part), total))
 }
 
 /// The components of a tuple type between the first and the last. Their names stay in scope.

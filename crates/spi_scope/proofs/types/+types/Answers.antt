@@ -12,8 +12,8 @@ use Rattle.spi_scope.specs.Table.{with_names}
 use Rattle.spi_scope.proofs.Tuples.{CountedType, CountedFields, CountedLast, naming, in_names, bound, tuple_counted, tuple_left}
 use Rattle.spi_scope.proofs.types.+types.Goals as goal
 
-pub read_type-returns-in_ok-ty-in-Tuple : goal.read_type-returns-in_ok-ty-in-Tuple
-read_type-returns-in_ok-ty-in-Tuple t c =
+pub read_tuple-returns : goal.read_tuple-returns
+read_tuple-returns t c =
     let w = c.in-Tuple in
     let s = c.args.scope.now in
     let e : c.args.t.now ≡ Tuple w.name w.first w.more w.last w.span = w.is in
@@ -24,8 +24,8 @@ read_type-returns-in_ok-ty-in-Tuple t c =
     let parts = c.in_ok-parts-in-Tuple in
     let tail = c.in_ok-tail-in-Tuple in
     let s3 = c.read_last.new.scope in
-    let h1 : CountedType c.args.base c.saturating_add-in-Tuple.result head.total (ty head.head) (ty_of w.first.value) s =
-    subst (λ (x : STy). CountedType c.args.base c.saturating_add-in-Tuple.result head.total (ty head.head) (ty_of x) s) c.deref.ensures head.ensures.gives in
+    let h1 : CountedType c.args.base c.saturating_add.result head.total (ty head.head) (ty_of w.first.value) s =
+    subst (λ (x : STy). CountedType c.args.base c.saturating_add.result head.total (ty head.head) (ty_of x) s) c.deref.ensures head.ensures.gives in
     let h2 = subst (λ (x : List SField). CountedFields c.args.base head.total parts.total (map ty parts.parts.items) (fields_of_list (map field_of x)) t1) c.deref-in-Tuple.ensures.value parts.ensures.gives in
     let f = subst (λ (x : List SField). c.read_fields.new.scope ≡ in_names t1 (behind t1.held.names (fields_of_list (map field_of x)))) c.deref-in-Tuple.ensures.value parts.ensures.scope in
     let h3 = subst (λ (x : Last). CountedLast c.args.base parts.total tail.total (ty tail.tail) (last_of x) c.read_fields.new.scope) c.deref-in-Tuple-2.ensures tail.ensures.gives in
@@ -34,21 +34,21 @@ read_type-returns-in_ok-ty-in-Tuple t c =
       gives = rw (ap ty_of e ∙ tuple_ty_is w.name w.first w.more w.last w.span)
           (tuple_counted c.args.base c.args.spent w.span w.name (ty_of w.first.value) (fields_of_list (map field_of w.more.items)) (last_of w.last.value) s t1 c.read_fields.new.scope
           head.total parts.total tail.total (ty head.head) (map ty parts.parts.items) (ty tail.tail) (ty c.in_ok-ty-in-Tuple.ty)
-          (rw c.saturating_add-in-Tuple.ensures at h1) behind_name h2 f h3 c.in_ok-ty-in-Tuple.ensures);
+          (rw c.saturating_add.ensures at h1) behind_name h2 f h3 c.in_ok-ty-in-Tuple.ensures);
       scope = ap (naming s3) (c.cut.ensures ∙ ap (λ n. with_names s3.held (drop (length s3.held.names - n) s3.held.names)) c.len-len.ensures)
           ∙ tuple_left c.args.base c.args.spent w.span w.name (ty_of w.first.value) (fields_of_list (map field_of w.more.items)) (last_of w.last.value) s t1 c.read_fields.new.scope
           head.total parts.total tail.total (ty head.head) (map ty parts.parts.items) (ty tail.tail) (ty c.in_ok-ty-in-Tuple.ty)
           behind_name f s3 tail.ensures.scope;
     }
 
-pub read_type-returns-in_err-parts-in-Tuple-clause-gives : goal.read_type-returns-in_err-parts-in-Tuple-clause-gives
-read_type-returns-in_err-parts-in-Tuple-clause-gives t c =
+pub read_tuple-returns-in_err-parts-in-Tuple-clause-gives : goal.read_tuple-returns-in_err-parts-in-Tuple-clause-gives
+read_tuple-returns-in_err-parts-in-Tuple-clause-gives t c =
     let w = c.in-Tuple in
     let e : c.args.t.now ≡ Tuple w.name w.first w.more w.last w.span = w.is in
     rw (ap ty_of e ∙ tuple_ty_is w.name w.first w.more w.last w.span) (search rules)
 
-pub read_type-returns-in_err-tail-in-Tuple-clause-gives : goal.read_type-returns-in_err-tail-in-Tuple-clause-gives
-read_type-returns-in_err-tail-in-Tuple-clause-gives t c =
+pub read_tuple-returns-in_err-tail-in-Tuple-clause-gives : goal.read_tuple-returns-in_err-tail-in-Tuple-clause-gives
+read_tuple-returns-in_err-tail-in-Tuple-clause-gives t c =
     let w = c.in-Tuple in
     let e : c.args.t.now ≡ Tuple w.name w.first w.more w.last w.span = w.is in
     rw (ap ty_of e ∙ tuple_ty_is w.name w.first w.more w.last w.span) (search rules)
