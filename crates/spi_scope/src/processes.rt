@@ -1,7 +1,7 @@
 //! Processes.
 
 ghost use Rattle.std.specs.Prelude.{◌≡◌, ◌≤◌, ◌∷◌, OnOk};
-ghost use Rattle.spi_tree.specs.Trees.{par, out_then, case};
+ghost use Rattle.spi_tree.specs.Trees.{stop, par, out, out_then, case};
 ghost use Rattle.spi_tree.specs.Views.{msg_of, ty_of, proc_of};
 ghost use Rattle.spi_scope.specs.Leads.{LeadsTo};
 ghost use Rattle.spi_scope.specs.Forms.{process_run, AddsProcess, form_kind, messages_form, typed_form, opening_form, pair_form};
@@ -18,6 +18,40 @@ use spi_text::Span;
 use spi_tree::{SMsg, SProc, STy, SWord};
 use std::alloc::Global;
 
+/// The node of a process that does nothing.
+fn stop(scope: &mut Scope, arena: &mut Arena, span: Span) -> Result<(), ScopeFault>
+    requires few { scope.old.count ≤ 100000 }
+    ensures gives { LeadsTo result (process_run scope.old scope.old.held.names (stop span)) scope.new.count }
+    ensures adds { OnOk result
+        (AddsProcess scope.old scope.new arena.old arena.new scope.old.held.names (stop span)) }
+{
+    let base = scope.held.len();
+    add(scope, 1, span)?;
+    push(scope, arena, base, Form::Stop, span)
+}
+
+/// The node of an output.
+fn send(
+    alloc: Global,
+    scope: &mut Scope,
+    arena: &mut Arena,
+    channel: &SMsg,
+    datum: &SMsg,
+    span: Span,
+) -> Result<(), ScopeFault>
+    requires few { scope.old.count ≤ 100000 }
+    ensures gives { LeadsTo result
+        (process_run scope.old scope.old.held.names (out span (msg_of channel.now) (msg_of datum.now)))
+        scope.new.count }
+    ensures adds { OnOk result
+        (AddsProcess scope.old scope.new arena.old arena.new scope.old.held.names
+        (out span (msg_of channel.now) (msg_of datum.now))) }
+{
+    let base = scope.held.len();
+    let (channel, datum) = read_messages_head(alloc, scope, base, span, channel, datum)?;
+    push(scope, arena, base, Form::Send { channel, datum }, span)
+}
+
 /// The nodes of a process, behind those that are there.
 #[cycle(processes)]
 pub fn read_process<'t>(
@@ -33,11 +67,7 @@ pub fn read_process<'t>(
         (AddsProcess scope.old scope.new arena.old arena.new scope.old.held.names (proc_of p.entry.now)) }
 {
     match p {
-        SProc::Stop { span } => {
-            let base = scope.held.len();
-            add(scope, 1, *span)?;
-            push(scope, arena, base, Form::Stop, *span)
-        }
+        SProc::Stop { span } => stop(scope, arena, *span),
         SProc::Out { .. } => read_messages_form(alloc, scope, arena, p),
         SProc::OutThen { .. } => read_messages_form(alloc, scope, arena, p),
         SProc::Check { .. } => read_messages_form(alloc, scope, arena, p),
@@ -88,11 +118,7 @@ fn read_messages_form<'t>(
             channel,
             datum,
             span,
-        } => {
-            let base = scope.held.len();
-            let (channel, datum) = read_messages_head(alloc, scope, base, *span, channel, datum)?;
-            push(scope, arena, base, Form::Send { channel, datum }, *span)
-        }
+        } => send(alloc, scope, arena, channel, datum, *span),
         SProc::OutThen {
             channel,
             datum,
