@@ -187,7 +187,7 @@ fn read_boxed(
     Ok((Box::new(alloc, read)?, total))
 }
 
-/// The message `inl(M)` of this one.
+/// The message `inl M` for this part.
 #[cycle(messages)]
 fn read_inl(
     alloc: Global,
@@ -204,7 +204,7 @@ fn read_inl(
     Ok((Msg::Inl(part), total))
 }
 
-/// The message `inr(M)` of this one.
+/// The message `inr M` for this part.
 #[cycle(messages)]
 fn read_inr(
     alloc: Global,
@@ -245,7 +245,7 @@ fn read_enc(
     }
 }
 
-/// The message `hash(M)` of this one.
+/// The message `hash(M)` for this part.
 #[cycle(messages)]
 fn read_hash(
     alloc: Global,

@@ -110,7 +110,7 @@ fn read_atoms(
     Ok((read, total))
 }
 
-/// The type `Nonce e` of this effect.
+/// The type `Nonce [..]` of these atoms.
 fn read_nonce(
     alloc: Global,
     scope: &Scope,
@@ -278,7 +278,7 @@ fn read_sum<'t>(
     }
 }
 
-/// The type `Key(T)` of this one.
+/// The type `Key(T)` for this part.
 #[cycle(types)]
 fn read_key<'t>(
     alloc: Global,
