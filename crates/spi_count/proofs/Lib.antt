@@ -4,3 +4,4 @@ pub mod Read
 pub mod Kept
 pub mod Merging
 pub mod Below
+pub mod Waiting

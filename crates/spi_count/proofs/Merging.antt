@@ -49,6 +49,17 @@ unfolding IsStrictlySortedBy
 none_later k by [] o = refl
 none_later k by (e ∷ es) o = ap (λ r. unwrap_or r 0) (lookup-none (is_at (nat_cmp k)) (e ∷ es) (none_below_head nat_cmp_total k e es o.1 o.0.0))
 
+-- what is left at a key, with the first entry and without it
+pub left_first : (k by : ℕ) (es : List (ℕ × ℕ)) → IsStrictlySortedBy nat_cmp (keys_of ((k, by) ∷ es)) → (q : ℕ)
+    → ((q ≡ k) × (left_at ((k, by) ∷ es) q ≡ by) × (left_at es q ≡ 0)) ⊎ ((q ≢ k) × (left_at ((k, by) ∷ es) q ≡ left_at es q))
+left_first k by es o q = ⊎_elim (λ e. inl (e, first e, later e)) (λ d. inr (d, ap (λ r. unwrap_or r 0) (lookup_tail (is_at (nat_cmp q)) (k, by) es (is_apart q k d)))) (cases_eq q k)
+  where
+    first : q ≡ k → left_at ((k, by) ∷ es) q ≡ by
+    first e = ap (λ r. unwrap_or r 0) (lookup_head (is_at (nat_cmp q)) (k, by) es (is_here q k e))
+
+    later : q ≡ k → left_at es q ≡ 0
+    later e = ap (left_at es) e ∙ none_later k by es o
+
 -- the first entry's count goes over
 pub goes : (k by : ℕ) (es : List (ℕ × ℕ)) (so_far new whole : ℕ → ℕ) → Left ((k, by) ∷ es) so_far whole
     → ((q : ℕ) → new q ≡ (if eqb k q then so_far k + by else so_far q)) → Left es new whole

@@ -16,6 +16,8 @@ use Rattle.spi_count.specs.Adding.{atom_of_kind}
 use Rattle.spi_count.specs.declared.sum.AtomKind.{AtomKind}
 use Rattle.spi_count.specs.declared.sum.AtomKind.TheVariants.{End, Check, Many}
 use Rattle.spi_count.specs.declared.sum.Sum.{Sum}
+use Rattle.spi_count.specs.declared.pile.Pile.{Pile}
+use Rattle.spi_count.specs.Piles.{piled, StandsForPile}
 use Rattle.spi_intern.specs.Parts.{message_of}
 
 -- atoms of one kind with one message are one
@@ -50,6 +52,21 @@ same_place above over i j h k e = omega (arith, h, k, e)
 pub zero_or : (n : ℕ) → (n ≡ 0) ⊎ (0 < n)
 zero_or zero = inl refl
 zero_or (suc n) = inr (omega arith)
+
+-- where none waits any more, or none waits yet
+pub pile_settled : {At : ℕ → Message → Type 0} {p : Pile} {s : Sum} {es : Effect} → ((kind : AtomKind) (k : ℕ) → count_of (part kind s) k ≡ piled kind p k) → StandsForPile At p es → StandsForEffect At s es
+pile_settled e h = record {
+  counted = λ a i g. e (kind_of_atom a) (key_of (name_bound (message_of a)) i) ∙ h.counted a i g;
+  known = h.known;
+  kept = λ kind k g. h.kept kind k (subst (λ n. 0 < n) (e kind k) g);
+}
+
+pub pile_of_sum : {At : ℕ → Message → Type 0} {p : Pile} {s : Sum} {es : Effect} → ((kind : AtomKind) (k : ℕ) → piled kind p k ≡ count_of (part kind s) k) → StandsForEffect At s es → StandsForPile At p es
+pile_of_sum e h = record {
+  counted = λ a i g. e (kind_of_atom a) (key_of (name_bound (message_of a)) i) ∙ h.counted a i g;
+  known = h.known;
+  kept = λ kind k g. h.kept kind k (subst (λ n. 0 < n) (e kind k) g);
+}
 
 module _ (At : ℕ → Message → Type 0) (numbers : AreNumbers At) where
   -- the count of an atom
@@ -244,6 +261,33 @@ module _ (At : ℕ → Message → Type 0) (numbers : AreNumbers At) where
     kept = λ kind j p.
         ⊎_elim (λ q. h.kept kind j q) (λ q. k.kept kind j q)
         (both_positive kind (count_of (part kind s) j) (count_of (part kind t) j) (subst (λ n. 0 < n) (e kind j) p));
+  }
+
+  -- the same where atoms wait
+  pub piles_none : {p : Pile} → ((kind : AtomKind) (k : ℕ) → piled kind p k ≡ 0) → StandsForPile At p []
+  piles_none {p} h = record {
+    counted = λ a i g. h (kind_of_atom a) (key_of (name_bound (message_of a)) i) ∙ sym (none a);
+    known = λ a n. absurd (let t = in_tally n in omega (arith, t));
+    kept = λ kind k p. absurd (let z = h kind k in omega (arith, z, p));
+  }
+    where
+      none : (a : Atom) → count a [] ≡ 0
+      none a = ⊎_elim (λ c. omega (arith, c 0)) (λ c. omega (arith, c 0)) (cut_cases a)
+
+  pub piles_joined : {p q r : Pile} {es fs : Effect} → StandsForPile At p es → StandsForPile At q fs
+      → ((kind : AtomKind) (k : ℕ) → piled kind r k ≡ both_counts kind (piled kind p k) (piled kind q k)) → StandsForPile At r (es ++ fs)
+  piles_joined {p} {q} {r} {es} {fs} h k e = record {
+    counted = λ a i g.
+        e (kind_of_atom a) (key_of (name_bound (message_of a)) i)
+        ∙ ap (λ n. both_counts (kind_of_atom a) n (piled (kind_of_atom a) q (key_of (name_bound (message_of a)) i))) (h.counted a i g)
+        ∙ ap (λ n. both_counts (kind_of_atom a) (count a es) n) (k.counted a i g)
+        ∙ both_is a (tally a es) (tally a fs)
+        ∙ ap (cut a) (sym (tally_append a es fs));
+    known = λ a n.
+        ⊎_elim (λ p. h.known a (count_in a es p)) (λ p. k.known a (count_in a fs p)) (cut_positive a es fs (in_count a (es ++ fs) n));
+    kept = λ kind j g.
+        ⊎_elim (λ g. h.kept kind j g) (λ g. k.kept kind j g)
+        (both_positive kind (piled kind p j) (piled kind q j) (subst (λ n. 0 < n) (e kind j) g));
   }
 
   -- the greater counts

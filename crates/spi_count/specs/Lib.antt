@@ -3,3 +3,4 @@ pub mod Sums
 pub mod Keys
 pub mod Keeping
 pub mod Adding
+pub mod Piles

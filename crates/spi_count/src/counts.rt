@@ -8,7 +8,7 @@ use std::collections::BTreeMap;
 
 /// How high each key is counted. A key that isn't kept is counted 0.
 pub struct Counts {
-    counts: BTreeMap<u64, u64>,
+    pub(crate) counts: BTreeMap<u64, u64>,
     ghost positive: { ArePositive counts },
 }
 
@@ -103,7 +103,11 @@ impl Counts {
     pub fn lower(&mut self, key: u64, by: u64)
         ensures { Sets self.old.counts self.new.counts key (count_of self.old.counts key - by) }
     {
-        let left = self.count(key).saturating_sub(by);
+        let before = self.count(key);
+        if before == 0 {
+            return;
+        }
+        let left = before.saturating_sub(by);
         if left == 0 {
             self.counts.remove(&key);
         } else if let Some(count) = self.counts.get_mut(&key) {

@@ -6,6 +6,7 @@ mod atoms;
 mod counts;
 mod keeping;
 mod keys;
+mod pile;
 mod reading;
 mod sum;
 
@@ -13,6 +14,7 @@ pub use atoms::{add_atom, add_atoms, add_type, take_atom, take_type};
 pub use counts::Counts;
 pub use keeping::{keep_atoms, keep_message};
 pub use keys::Keys;
+pub use pile::{Late, Pile};
 pub use reading::effect_of_sum;
 use std::alloc::AllocError;
 pub use sum::{AtomKind, Sum};

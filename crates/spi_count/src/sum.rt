@@ -2,11 +2,13 @@
 ghost use Rattle.std.specs.Prelude.{false, ◌≡◌, ◌↔◌, ◌+◌, ◌-◌, ◌<◌, ◌≤◌, ℕ, max, IfSome, IfNone, IfOk, OnOk, IsTrue};
 ghost use Rattle.spi_count.specs.Counts.{count_of, IsNothing};
 ghost use Rattle.spi_count.specs.Sums.{part, one_more, both_counts, sum_keys, Puts};
+ghost use Rattle.spi_count.specs.Piles.{waits_once, waits};
 ghost use Rattle.spi_count.specs.declared.sum.AtomKind.{AtomKind};
 ghost use Rattle.spi_count.specs.declared.sum.AtomKind.TheVariants as kinds;
 
 use crate::NoMemory;
 use crate::counts::Counts;
+use crate::pile::{Late, put_off};
 use std::alloc::Global;
 use std::mem::replace;
 
@@ -123,8 +125,50 @@ impl Sum {
         }
     }
 
+    // How many keys are counted.
+    pub(crate) fn keys(&self) -> usize {
+        self.ends
+            .len()
+            .saturating_add(self.checks.len())
+            .saturating_add(self.lasting.len())
+    }
+
+    // Adds an atom that waited.
+    pub(crate) fn put(&mut self, atom: Late) -> Result<(), NoMemory>
+        ensures { OnOk result
+            ((kind : AtomKind) (k : ℕ)
+            → count_of (part kind self.new) k
+            ≡ both_counts kind (count_of (part kind self.old) k) (waits_once kind atom k)) }
+    {
+        if atom.count == 0 {
+            return Ok(());
+        }
+        match atom.kind {
+            AtomKind::End => self.ends.raise(atom.key, atom.count),
+            AtomKind::Check => self.checks.raise(atom.key, atom.count),
+            AtomKind::Many => self.lasting.raise_to(atom.key, atom.count),
+        }
+    }
+
+    // The atoms wait to be counted with others.
+    pub(crate) fn put_off(self, late: &mut Vec<Late>) -> Result<(), NoMemory>
+        ensures { OnOk result
+            ((kind : AtomKind) (k : ℕ)
+            → waits kind late.new.items k
+            ≡ both_counts kind (waits kind late.old.items k) (count_of (part kind self) k)) }
+    {
+        let Sum {
+            ends,
+            checks,
+            lasting,
+        } = self;
+        put_off(ends, AtomKind::End, late)?;
+        put_off(checks, AtomKind::Check, late)?;
+        put_off(lasting, AtomKind::Many, late)
+    }
+
     // Adds the atoms of another.
-    fn absorb(&mut self, other: Sum) -> Result<(), NoMemory>
+    pub(crate) fn absorb(&mut self, other: Sum) -> Result<(), NoMemory>
         ensures { OnOk result
             ((kind : AtomKind) (k : ℕ)
             → count_of (part kind self.new) k

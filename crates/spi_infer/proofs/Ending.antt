@@ -5,10 +5,10 @@ use Rattle.spi_term.specs.Spelling.{numbered, spelled}
 use Rattle.spi_rules.specs.Environment.{Env}
 use Rattle.spi_rules.specs.Blocking.{NodeOf}
 use Rattle.spi_intern.specs.declared.store.Store.{Store}
-use Rattle.spi_count.specs.declared.sum.Sum.{Sum}
+use Rattle.spi_count.specs.declared.pile.Pile.{Pile}
 use Rattle.spi_infer.specs.declared.own.Noted.{Noted}
 use Rattle.spi_count.specs.Keeping.{with_keys}
-use Rattle.spi_infer.specs.Own.{CountsFor}
+use Rattle.spi_infer.specs.Own.{PileFor}
 use Rattle.spi_infer.specs.Forms.{effect_of}
 use Rattle.spi_infer.specs.Passes.{scan, run_notes, first_stuck}
 use Rattle.spi_infer.specs.Accounts.{Tops, IsNoted}
@@ -20,12 +20,12 @@ pub ends_stuck : (k : ℕ) (p : Process) (env : Env) (from id : ℕ) → id ≡ 
 ends_stuck k p env from id e r w =
     w ∙ ap (λ i. first_stuck i (drop i (spelled k p)) (drop i (scan 0 env [] (spelled k p)))) e
 
-none_left : (s : Store) (noted : Noted) (items : List (Option Sum)) (o : Option Effect) (st : List (Option Effect)) → length items ≡ 0 → Tops s noted.keys items (o ∷ st) → ⊥
+none_left : (s : Store) (noted : Noted) (items : List (Option Pile)) (o : Option Effect) (st : List (Option Effect)) → length items ≡ 0 → Tops s noted.keys items (o ∷ st) → ⊥
 none_left s noted [] o st e t = absurd (cc)
 none_left s noted (x ∷ items) o st e t = absurd (omega (arith, e))
 
 module _ (s : Store) (noted : Noted) (k : ℕ) (p : Process) (env : Env) (h : IsNoted s noted k p env) (from : ℕ) (e : Env) (q : Process) (n : NodeOf env p from e q)
-    (id : ℕ) (z : id ≡ from) (items : List (Option Sum)) (t : Tops s noted.keys items (run_notes (drop id (spelled k p)) (drop id (scan 0 env [] (spelled k p))))) where
+    (id : ℕ) (z : id ≡ from) (items : List (Option Pile)) (t : Tops s noted.keys items (run_notes (drop id (spelled k p)) (drop id (scan 0 env [] (spelled k p))))) where
   node_runs : RunsTo k p env from e q
   node_runs = runs_to k h.names (reached_of n)
 
@@ -33,7 +33,7 @@ module _ (s : Store) (noted : Noted) (k : ℕ) (p : Process) (env : Env) (h : Is
   stack_is =
       subst (Tops s noted.keys items) (ap (λ i. run_notes (drop i (spelled k p)) (drop i (scan 0 env [] (spelled k p)))) z ∙ node_runs.is) t
 
-  pub ends_with : (rest : List (Option Sum)) (o : Option Sum) → items ≡ rest ++ o ∷ [] → CountsFor (with_keys s noted.keys) o (effect_of (numbered [] (length e) q) e)
+  pub ends_with : (rest : List (Option Pile)) (o : Option Pile) → items ≡ rest ++ o ∷ [] → PileFor (with_keys s noted.keys) o (effect_of (numbered [] (length e) q) e)
   ends_with rest o f =
       (tops_top (with_keys s noted.keys) items rest o (effect_of (numbered [] (length e) q) e ∷ node_runs.others) f stack_is).0
 

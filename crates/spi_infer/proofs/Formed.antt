@@ -1,5 +1,5 @@
 -- What forms do to counts against what they do to effects.
-use Rattle.std.proofs.Common.{◌≡◌, refl, sym, subst, ℕ, zero, suc, ◌+◌, ◌-◌, ◌*◌, ◌<◌, ◌≤◌, Bool, true, false, ◌||◌, [], ◌∷◌, Option, Some, None, ◌⊎◌, inl, inr, ⊎_elim, arith}
+use Rattle.std.proofs.Common.{◌≡◌, refl, sym, ap, subst, ℕ, zero, suc, ◌+◌, ◌-◌, ◌*◌, ◌<◌, ◌≤◌, Bool, true, false, ◌||◌, [], ◌∷◌, Option, Some, None, ◌⊎◌, inl, inr, ⊎_elim, arith}
 use Rattle.std.specs.Prelude.{slice_get, max}
 use Rattle.std.proofs.lemmas.Bool.{or_left, or_right}
 use Rattle.spi_term.specs.Term.{Message, name, ends, checks, many, Effect, Ty, nonce, Casts, Pars}
@@ -17,17 +17,20 @@ use Rattle.spi_count.specs.Counts.{count_of, IsNothing}
 use Rattle.spi_count.specs.Sums.{name_bound, part, both_counts, StandsForEffect}
 use Rattle.spi_count.specs.declared.sum.AtomKind.{AtomKind}
 use Rattle.spi_count.specs.declared.sum.AtomKind.TheVariants as K
+use Rattle.spi_count.specs.Piles.{piled}
 use Rattle.spi_count.specs.declared.sum.Sum.{Sum}
-use Rattle.spi_count.proofs.Standing.{unreached_below, reached_in, below_mentions, in_mentions, stands_many, many_stands, stands_greatest, stands_joined}
+use Rattle.spi_count.specs.declared.pile.Pile.{Pile}
+use Rattle.spi_count.proofs.Waiting.{settled_same}
+use Rattle.spi_count.proofs.Standing.{unreached_below, reached_in, below_mentions, in_mentions, stands_many, many_stands, stands_greatest, piles_joined, pile_settled, pile_of_sum}
 use Rattle.spi_count.specs.declared.keys.Keys.{Keys}
 use Rattle.spi_infer.specs.declared.own.Own.{Own}
 use Rattle.spi_infer.specs.declared.own.Own.TheVariants.{Label}
 use Rattle.spi_count.specs.Keeping.{with_keys, IsKeyed}
-use Rattle.spi_infer.specs.Own.{CountsFor}
+use Rattle.spi_infer.specs.Own.{CountsFor, PileFor}
 use Rattle.spi_infer.specs.Forms.{unless_blocked, keep}
 use Rattle.spi_message.specs.Forms.{cast_effect_of}
 use Rattle.spi_count.specs.Adding.{SumOf, TakesAtom, AddsAtom}
-use Rattle.spi_infer.specs.Accounts.{AfterOne, AfterTwo, AfterServe, AfterMake, AfterCheck, AfterForm, OwnCast, OwnBegin, OwnEnd, OwnMany, BothCase, BothForm}
+use Rattle.spi_infer.specs.Accounts.{AfterOne, AfterTwo, AfterServe, AfterMake, AfterCheck, AfterForm, OwnCast, OwnBegin, OwnEnd, OwnMany, BothCase, BothPiles, BothForm}
 use Rattle.spi_count.proofs.Summed.{numbers}
 use Rattle.spi_count.proofs.Below.{in_minus, below_more}
 use Rattle.spi_intern.specs.Parts.{message_of}
@@ -146,5 +149,23 @@ many_is keys own label old new f p s id m es e kd g t =
 pub cast_form : (s : Store) (keys : Keys) (k b : ℕ) (m : Message) (u : Ty) (own : Own) (sum : Sum) (r : Option Sum) → OwnCast k s keys own sum r → AfterForm s keys (prefix_at k (Casts m u) b) own sum r
 cast_form s keys k b m u own sum r h paid es kd f t l = h f.0 f.1 u es kd f.2 f.3 t l
 
-pub par_form : (k a r : ℕ) (x y z : Sum) → ((kind : AtomKind) (q : ℕ) → count_of (part kind z) q ≡ both_counts kind (count_of (part kind x) q) (count_of (part kind y) q)) → BothForm (fork_at k Pars a r) x y (Some z)
-par_form k a r x y z g s keys es fs kd t u b c = stands_joined (with_keys s keys) (numbers kd) t u g
+pub par_form : (k a r : ℕ) (x y z : Pile) → ((kind : AtomKind) (q : ℕ) → piled kind z q ≡ both_counts kind (piled kind x q) (piled kind y q)) → BothForm (fork_at k Pars a r) x y (Some z)
+par_form k a r x y z g s keys es fs kd t u b c = piles_joined (with_keys s keys) (numbers kd) t u g
+
+-- two sides of which no atom waits any more
+module _ (k : ℕ) (a b : Pile) (x y : Sum) (e : (kind : AtomKind) (q : ℕ) → count_of (part kind x) q ≡ piled kind a q) (f : (kind : AtomKind) (q : ℕ) → count_of (part kind y) q ≡ piled kind b q) where
+  pub sides_both : (sum : Sum) (both : Pile) → both.sum ≡ sum → both.late.items ≡ [] → BothCase k x y (Some sum) → BothPiles k a b (Some both)
+  sides_both sum both i z h s keys es fs kd t u v w =
+      go (mentions k es || mentions k fs) (h s keys es fs kd (pile_settled e t) (pile_settled f u) v w)
+    where
+      go : (m : Bool) → CountsFor (with_keys s keys) (Some sum) (unless_blocked m (greater es fs)) → PileFor (with_keys s keys) (Some both) (unless_blocked m (greater es fs))
+      go true r = r
+      go false r = pile_of_sum (λ kind q. settled_same kind both _ q (ap (λ s. count_of (part kind s) q) i) z) r
+
+  pub sides_none : BothCase k x y None → BothPiles k a b None
+  sides_none h s keys es fs kd t u v w =
+      go (mentions k es || mentions k fs) (h s keys es fs kd (pile_settled e t) (pile_settled f u) v w)
+    where
+      go : (m : Bool) → CountsFor (with_keys s keys) None (unless_blocked m (greater es fs)) → PileFor (with_keys s keys) None (unless_blocked m (greater es fs))
+      go true r = r
+      go false r = r

@@ -14,7 +14,7 @@ use Rattle.spi_intern.specs.declared.store.Store.{Store}
 use Rattle.spi_intern.specs.declared.messages.MsgId.{MsgId}
 use Rattle.spi_intern.specs.declared.types.TyId.{TyId}
 use Rattle.spi_intern.specs.Meaning.{NoneTwice}
-use Rattle.spi_count.specs.declared.sum.Sum.{Sum}
+use Rattle.spi_count.specs.declared.pile.Pile.{Pile}
 use Rattle.spi_count.specs.declared.keys.Keys.{Keys}
 use Rattle.spi_infer.specs.declared.own.Own.{Own}
 use Rattle.spi_infer.specs.declared.own.Own.TheVariants.{Checked, Cast}
@@ -175,17 +175,17 @@ module _ (s : Store) (noted : Noted) (k : ℕ) (p : Process) (env : Env) (h : Is
         let b = behind_drop i ss ns (all_behind k p env h.names over) in
         (subst (AllBehind (x ∷ drop id ss)) at_note (subst (λ l. AllBehind l (drop i ns)) at_node b)).0
 
-    pub before : (old : List (Option Sum)) → Tops s noted.keys old st → IsBeforeNode s noted.keys x o old note_here st
+    pub before : (old : List (Option Pile)) → Tops s noted.keys old st → IsBeforeNode s noted.keys x o old note_here st
     before old t = record { keyed = record { once = once; keyed = h.keyed }; noted = unfold note_here in here.noted; behind = behind; tops = t }
 
     pub acted : act x note_here st ≡ run_notes (drop i ss) (drop i ns)
     acted = sym (ap (λ l. run_notes l (drop i ns)) at_node ∙ ap (run_notes (x ∷ drop id ss)) at_note)
 
     -- what the node's turn makes of the stack, and whether the node is stuck
-    pub tops_after : (old new : List (Option Sum)) → Tops s noted.keys old st → ((n : Note) (st : List (Option Effect)) → IsBeforeNode s noted.keys x o old n st → Tops s noted.keys new (act x n st)) → Tops s noted.keys new (run_notes (drop i ss) (drop i ns))
+    pub tops_after : (old new : List (Option Pile)) → Tops s noted.keys old st → ((n : Note) (st : List (Option Effect)) → IsBeforeNode s noted.keys x o old n st → Tops s noted.keys new (act x n st)) → Tops s noted.keys new (run_notes (drop i ss) (drop i ns))
     tops_after old new t f = subst (Tops s noted.keys new) acted (f note_here st (before old t))
 
-    pub stuck_at : (old : List (Option Sum)) (b : Bool) → Tops s noted.keys old st → ((n : Note) (st : List (Option Effect)) → IsBeforeNode s noted.keys x o old n st → b ≡ is_stuck x n st) → b ≡ is_stuck x note_here st
+    pub stuck_at : (old : List (Option Pile)) (b : Bool) → Tops s noted.keys old st → ((n : Note) (st : List (Option Effect)) → IsBeforeNode s noted.keys x o old n st → b ≡ is_stuck x n st) → b ≡ is_stuck x note_here st
     stuck_at old b t f = f note_here st (before old t)
 
     stuck_is : first_stuck i (drop i ss) (drop i ns) ≡ (if is_stuck x note_here st then Some i else first_stuck (suc i) (drop id ss) (drop id ns))
@@ -200,7 +200,7 @@ module _ (s : Store) (noted : Noted) (k : ℕ) (p : Process) (env : Env) (h : Is
         w ∙ ap (λ n. first_stuck n (drop id ss) (drop id ns)) n ∙ sym (stuck_is ∙ ap (λ b. if b then Some i else first_stuck (suc i) (drop id ss) (drop id ns)) (sym f ∙ e))
 
 -- where the pass begins and ends
-pub starts : (s : Store) (keys : Keys) (k : ℕ) (p : Process) (bs : List Note) (n : ℕ) (os : List (Option Sum)) → n ≡ process_size p → os ≡ [] → Tops s keys os (run_notes (drop n (spelled k p)) bs)
+pub starts : (s : Store) (keys : Keys) (k : ℕ) (p : Process) (bs : List Note) (n : ℕ) (os : List (Option Pile)) → n ≡ process_size p → os ≡ [] → Tops s keys os (run_notes (drop n (spelled k p)) bs)
 starts s keys k p bs n os l e =
     subst (λ os. Tops s keys os (run_notes (drop n (spelled k p)) bs)) (sym e) (ap (λ l. run_notes l bs) (none_from k p l))
 

@@ -12,14 +12,16 @@ use Rattle.spi_intern.specs.declared.types.TyId.{TyId}
 use Rattle.spi_intern.specs.Meaning.{Means}
 use Rattle.spi_effect.specs.Made.{are_many, mentions, minus, greater}
 use Rattle.spi_count.specs.Sums.{Below}
+use Rattle.spi_count.specs.Piles.{StandsForPile}
 use Rattle.spi_count.specs.declared.sum.Sum.{Sum}
+use Rattle.spi_count.specs.declared.pile.Pile.{Pile}
 use Rattle.spi_count.specs.declared.keys.Keys.{Keys}
 use Rattle.spi_infer.specs.declared.own.Own.{Own}
 use Rattle.spi_infer.specs.declared.own.Own.TheVariants.{Label, Checked, Cast, Made}
 use Rattle.spi_infer.specs.declared.own.OwnNote.{OwnNote}
 use Rattle.spi_infer.specs.declared.own.Noted.{Noted}
 use Rattle.spi_count.specs.Keeping.{with_keys, IsKeyed, HaveKeys, AreKept}
-use Rattle.spi_infer.specs.Own.{PaidFits, IsOwnOf, CountsFor, FormNotedAs, AreFormsNoted, TopsStand}
+use Rattle.spi_infer.specs.Own.{PaidFits, IsOwnOf, CountsFor, PileFor, FormNotedAs, AreFormsNoted, TopsStand}
 use Rattle.spi_message.specs.Forms.{cast_effect_of}
 use Rattle.spi_infer.specs.Forms.{unless_blocked, keep, checked}
 use Rattle.spi_infer.specs.Passes.{Note, scan, after_shape, both_shape}
@@ -75,16 +77,23 @@ AfterForm s keys x own sum r =
     → SumOf s keys sum es → BelowIn x es → CountsFor (with_keys s keys) r (after_shape x paid es)
 
 -- what a form with two processes does to theirs
-abbrev pub BothForm : Shape → Sum → Sum → Option Sum → Type 0
+abbrev pub BothForm : Shape → Pile → Pile → Option Pile → Type 0
 BothForm x a b r =
-    (s : Store) (keys : Keys) (es fs : Effect) → IsKeyed s keys → SumOf s keys a es → SumOf s keys b fs
-    → BelowIn x es → BelowIn x fs → CountsFor (with_keys s keys) r (both_shape x es fs)
+    (s : Store) (keys : Keys) (es fs : Effect) → IsKeyed s keys → StandsForPile (with_keys s keys) a es
+    → StandsForPile (with_keys s keys) b fs → BelowIn x es → BelowIn x fs
+    → PileFor (with_keys s keys) r (both_shape x es fs)
 
 abbrev pub BothCase : ℕ → Sum → Sum → Option Sum → Type 0
 BothCase k a b r =
     (s : Store) (keys : Keys) (es fs : Effect) → IsKeyed s keys → SumOf s keys a es → SumOf s keys b fs
     → Below (k + 1) es → Below (k + 1) fs
     → CountsFor (with_keys s keys) r (unless_blocked (mentions k es || mentions k fs) (greater es fs))
+
+abbrev pub BothPiles : ℕ → Pile → Pile → Option Pile → Type 0
+BothPiles k a b r =
+    (s : Store) (keys : Keys) (es fs : Effect) → IsKeyed s keys → StandsForPile (with_keys s keys) a es
+    → StandsForPile (with_keys s keys) b fs → Below (k + 1) es → Below (k + 1) fs
+    → PileFor (with_keys s keys) r (unless_blocked (mentions k es || mentions k fs) (greater es fs))
 
 -- by what is kept of the form
 abbrev pub OwnCheck : Store → Keys → Own → Sum → Option Sum → Type 0
@@ -160,11 +169,11 @@ Behind (prefix_at k s b) st = TopBelowIn (prefix_at k s b) st
 Behind (fork_at k f a r) st = BothBelowIn (fork_at k f a r) st
 
 -- a stack that grows at its end
-abbrev pub Tops : Store → Keys → List (Option Sum) → List (Option Effect) → Type 0
+abbrev pub Tops : Store → Keys → List (Option Pile) → List (Option Effect) → Type 0
 Tops s keys os st = TopsStand (with_keys s keys) (reverse os) st
 
 -- before a node is acted on
-pub record IsBeforeNode (s : Store) (keys : Keys) (x : Shape) (o : OwnNote) (os : List (Option Sum))
+pub record IsBeforeNode (s : Store) (keys : Keys) (x : Shape) (o : OwnNote) (os : List (Option Pile))
     (n : Note)
     (st : List (Option Effect)) : Type 0 where
   pub keyed : IsKeyed s keys

@@ -8,7 +8,9 @@ use Rattle.spi_intern.specs.declared.messages.MsgId.{MsgId}
 use Rattle.spi_intern.specs.declared.types.TyId.{TyId}
 use Rattle.spi_intern.specs.Meaning.{Means}
 use Rattle.spi_count.specs.Sums.{StandsForEffect}
+use Rattle.spi_count.specs.Piles.{StandsForPile}
 use Rattle.spi_count.specs.declared.sum.Sum.{Sum}
+use Rattle.spi_count.specs.declared.pile.Pile.{Pile}
 use Rattle.spi_infer.specs.declared.own.Own.{Own}
 use Rattle.spi_infer.specs.declared.own.Own.TheVariants.{Label, Checked, Cast, Made}
 use Rattle.spi_infer.specs.declared.own.OwnNote.{OwnNote}
@@ -63,8 +65,15 @@ pub data AreFormsNoted (s : Store) (At : ℕ → Message → Type 0) : List Shap
   noted_next : {x : Shape} {n : Note} {o : OwnNote} {ss : List Shape} {ns : List Note} {os : List OwnNote}
       → FormNotedAs s At x n o → AreFormsNoted s At ss ns os → AreFormsNoted s At (x ∷ ss) (n ∷ ns) (o ∷ os)
 
+-- the same where atoms wait to be counted
+abbrev pub PileFor : (ℕ → Message → Type 0) → Option Pile → Option Effect → Type 0
+PileFor At None None = ⊤
+PileFor At None (Some es) = ⊥
+PileFor At (Some p) None = ⊥
+PileFor At (Some p) (Some es) = StandsForPile At p es
+
 -- a stack that grows at its end, read from its top
-abbrev pub TopsStand : (ℕ → Message → Type 0) → List (Option Sum) → List (Option Effect) → Type 0
+abbrev pub TopsStand : (ℕ → Message → Type 0) → List (Option Pile) → List (Option Effect) → Type 0
 TopsStand At [] st = st ≡ []
 TopsStand At (o ∷ os) [] = ⊥
-TopsStand At (o ∷ os) (e ∷ st) = CountsFor At o e × TopsStand At os st
+TopsStand At (o ∷ os) (e ∷ st) = PileFor At o e × TopsStand At os st

@@ -10,23 +10,40 @@ ghost use Rattle.spi_intern.specs.declared.store.Store.{Store};
 ghost use Rattle.spi_intern.specs.Meaning.{NoneTwice};
 ghost use Rattle.spi_count.specs.declared.keys.Keys.{Keys};
 ghost use Rattle.spi_count.specs.Keeping.{with_keys, IsKeyed};
-ghost use Rattle.spi_infer.specs.Own.{CountsFor};
+ghost use Rattle.spi_infer.specs.Own.{CountsFor, PileFor};
 ghost use Rattle.spi_infer.specs.Forms.{by_effects, keep, effect_of};
 ghost use Rattle.spi_infer.specs.Passes.{Note, scan, act, act_by, act_both, stuck_top_by, stuck_both, stuck_two_by, is_stuck, first_stuck, after_shape, both_shape};
 ghost use Rattle.spi_infer.specs.Accounts.{Tops, MayBelowIn, BothBelowIn, IsBeforeNode, NoteGiven, IsNoted};
 
 use crate::own::{Noted, OwnNote};
 use crate::sums::{after_form, both_form};
-use spi_count::{Keys, NoMemory, Sum};
+use spi_count::{Keys, NoMemory, Pile, Sum};
 use spi_intern::Store;
 use spi_term::{Form, Node, Process};
 use std::alloc::Global;
+
+// The counts of an effect, where there is one and no atom waits any more.
+fn counted(pile: Option<Pile>) -> Result<Option<Sum>, NoMemory>
+    ensures { IfOk result
+        (λ r. (s : Store) (keys : Keys) (e : Option Effect) → PileFor (with_keys s keys) pile e
+        → CountsFor (with_keys s keys) r e) }
+{
+    match pile {
+        None => Ok(None),
+        Some(pile) => {
+            let mut settled = pile;
+            settled.settle()?;
+            let Pile { sum, late: _ } = settled;
+            Ok(Some(sum))
+        }
+    }
+}
 
 /// One node with no process in it. Whether it has no effect.
 pub fn act_on_none(
     alloc: Global,
     fine: bool,
-    stack: &mut Vec<Option<Sum>>,
+    stack: &mut Vec<Option<Pile>>,
 ) -> Result<bool, NoMemory>
     ensures stack { OnOk result
         ((s : Store) (keys : Keys) (st : List (Option Effect)) → IsKeyed s keys
@@ -34,7 +51,7 @@ pub fn act_on_none(
     ensures stuck { IfOk result (λ b. b ≡ not fine) }
 {
     if fine {
-        stack.push(Some(Sum::new(alloc)))?;
+        stack.push(Some(Pile::new(alloc)))?;
         Ok(false)
     } else {
         stack.push(None)?;
@@ -49,7 +66,7 @@ pub fn act_on_one(
     keys: &Keys,
     node: &Node,
     note: &OwnNote,
-    stack: &mut Vec<Option<Sum>>,
+    stack: &mut Vec<Option<Pile>>,
 ) -> Result<bool, NoMemory>
     requires scope { scope_of (shape_of node.now) ≤ 300000 }
     requires own { NoteGiven store.now (shape_of node.now) note.now }
@@ -69,15 +86,25 @@ pub fn act_on_one(
             stack.push(None)?;
             Ok(false)
         }
-        Some(Some(sum)) => {
+        Some(Some(pile)) => {
             if !note.fine {
                 stack.push(None)?;
                 return Ok(true);
             }
+            let mut settled = pile;
+            settled.settle()?;
+            let Pile { sum, late } = settled;
             let next = after_form(store, keys, node, note.own, sum)?;
-            let is_stuck = next.is_none();
-            stack.push(next)?;
-            Ok(is_stuck)
+            match next {
+                None => {
+                    stack.push(None)?;
+                    Ok(true)
+                }
+                Some(sum) => {
+                    stack.push(Some(Pile { sum, late }))?;
+                    Ok(false)
+                }
+            }
         }
     }
 }
@@ -86,18 +113,18 @@ pub fn act_on_one(
 pub fn both_of(
     node: &Node,
     fine: bool,
-    a: Option<Sum>,
-    b: Option<Sum>,
-) -> Result<(Option<Sum>, bool), NoMemory>
+    a: Option<Pile>,
+    b: Option<Pile>,
+) -> Result<(Option<Pile>, bool), NoMemory>
     requires { scope_of (shape_of node.now) ≤ 300000 }
     ensures effect { IfOk result
         (λ r. (s : Store) (keys : Keys) (e f : Option Effect) → IsKeyed s keys
-        → CountsFor (with_keys s keys) a e → CountsFor (with_keys s keys) b f
+        → PileFor (with_keys s keys) a e → PileFor (with_keys s keys) b f
         → MayBelowIn (shape_of node.now) e → MayBelowIn (shape_of node.now) f
-        → CountsFor (with_keys s keys) r.0 (keep fine (by_effects (both_shape (shape_of node.now)) e f))) }
+        → PileFor (with_keys s keys) r.0 (keep fine (by_effects (both_shape (shape_of node.now)) e f))) }
     ensures stuck { IfOk result
         (λ r. (s : Store) (keys : Keys) (e f : Option Effect) → IsKeyed s keys
-        → CountsFor (with_keys s keys) a e → CountsFor (with_keys s keys) b f
+        → PileFor (with_keys s keys) a e → PileFor (with_keys s keys) b f
         → MayBelowIn (shape_of node.now) e → MayBelowIn (shape_of node.now) f
         → r.1 ≡ stuck_two_by (both_shape (shape_of node.now)) fine e f) }
 {
@@ -119,7 +146,7 @@ pub fn both_of(
 
 /// One node with two processes in it, whose effects are on top of the stack. Whether it has none where both
 /// have one.
-pub fn act_on_two(node: &Node, fine: bool, stack: &mut Vec<Option<Sum>>) -> Result<bool, NoMemory>
+pub fn act_on_two(node: &Node, fine: bool, stack: &mut Vec<Option<Pile>>) -> Result<bool, NoMemory>
     requires { scope_of (shape_of node.now) ≤ 300000 }
     ensures stack { OnOk result
         ((s : Store) (keys : Keys) (st : List (Option Effect)) → IsKeyed s keys
@@ -150,7 +177,7 @@ pub fn act_on(
     keys: &Keys,
     node: &Node,
     note: &OwnNote,
-    stack: &mut Vec<Option<Sum>>,
+    stack: &mut Vec<Option<Pile>>,
 ) -> Result<bool, NoMemory>
     requires scope { scope_of (shape_of node.now) ≤ 300000 }
     requires own { NoteGiven store.now (shape_of node.now) note.now }
@@ -206,7 +233,10 @@ pub fn account(
         }
     }
     match stack.pop() {
-        Some(effect) => Ok((effect, stuck)),
+        Some(pile) => {
+            let effect = counted(pile)?;
+            Ok((effect, stuck))
+        }
         None => Ok((None, stuck)),
     }
 }

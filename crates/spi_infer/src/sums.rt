@@ -5,10 +5,10 @@ ghost use Rattle.spi_term.specs.View.{shape_of};
 ghost use Rattle.spi_term.specs.Arena.{scope_of};
 ghost use Rattle.spi_intern.specs.declared.store.Store.{Store};
 ghost use Rattle.spi_count.specs.Adding.{AddsAtom};
-ghost use Rattle.spi_infer.specs.Accounts.{AfterOne, AfterTwo, AfterServe, AfterMake, AfterCast, AfterCheck, AfterForm, BothForm, BothCase, MayBeType, OwnCheck, OwnCast, OwnMake, OwnBegin, OwnEnd, OwnMany, CheckGiven, CastGiven, OwnGiven};
+ghost use Rattle.spi_infer.specs.Accounts.{AfterOne, AfterTwo, AfterServe, AfterMake, AfterCast, AfterCheck, AfterForm, BothForm, BothCase, BothPiles, MayBeType, OwnCheck, OwnCast, OwnMake, OwnBegin, OwnEnd, OwnMany, CheckGiven, CastGiven, OwnGiven};
 
 use crate::own::Own;
-use spi_count::{Keys, NoMemory, Sum, add_atom, add_type, take_atom, take_type};
+use spi_count::{Keys, NoMemory, Pile, Sum, add_atom, add_type, take_atom, take_type};
 use spi_intern::{AtomId, MsgId, Store, TyId};
 use spi_term::{Form, Node};
 
@@ -224,14 +224,32 @@ pub fn after_form(
     }
 }
 
+// The same where atoms wait to be counted. None waits afterwards.
+fn both_sides(scope: u32, a: Pile, b: Pile) -> Result<Option<Pile>, NoMemory>
+    requires { scope ≤ 300000 }
+    ensures { IfOk result (BothPiles scope a b) }
+{
+    let mut first = a;
+    first.settle()?;
+    let Pile { sum: a, late } = first;
+    let mut second = b;
+    second.settle()?;
+    let Pile { sum: b, late: _ } = second;
+    let both = after_branch(scope, a, b)?;
+    match both {
+        None => Ok(None),
+        Some(sum) => Ok(Some(Pile { sum, late })),
+    }
+}
+
 /// The effect of a form from those of its two processes.
-pub fn both_form(node: &Node, a: Sum, b: Sum) -> Result<Option<Sum>, NoMemory>
+pub fn both_form(node: &Node, a: Pile, b: Pile) -> Result<Option<Pile>, NoMemory>
     requires { scope_of (shape_of node.now) ≤ 300000 }
     ensures { IfOk result (BothForm (shape_of node.now) a b) }
 {
     match &node.form {
-        Form::Par { .. } => Ok(Some(Sum::joined(a, b)?)),
-        Form::Branch { .. } => after_branch(node.scope, a, b),
+        Form::Par { .. } => Ok(Some(Pile::joined(a, b)?)),
+        Form::Branch { .. } => both_sides(node.scope, a, b),
         _ => Ok(None),
     }
 }

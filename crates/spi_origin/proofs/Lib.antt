@@ -7,3 +7,4 @@ pub mod Marks
 pub mod OriginNodes
 pub mod Paid
 pub mod Stepping
+pub mod Settled

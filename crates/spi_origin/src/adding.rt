@@ -1,10 +1,11 @@
 // Whether a node's form adds an atom, and whether an atom stands in an effect.
 
-ghost use Rattle.std.specs.Prelude.{◌≡◌, ◌<◌, ℕ, Option, IsTrue, ◌↔◌, is_some};
+ghost use Rattle.std.specs.Prelude.{◌≡◌, ◌<◌, ℕ, Option, Some, IsTrue, ◌↔◌, is_some};
 ghost use Rattle.spi_count.specs.Keeping.{with_keys};
 ghost use Rattle.spi_count.specs.Sums.{kind_of_atom, name_bound, key_of};
 ghost use Rattle.spi_count.specs.declared.keys.Keys as Declared;
-ghost use Rattle.spi_infer.specs.Own.{IsOwnOf, CountsFor};
+ghost use Rattle.spi_infer.specs.Own.{IsOwnOf};
+ghost use Rattle.spi_count.specs.Adding.{SumOf};
 ghost use Rattle.spi_intern.specs.declared.messages.MsgId as Ids;
 ghost use Rattle.spi_intern.specs.declared.store.Store.{Store};
 ghost use Rattle.spi_intern.specs.declared.types.TyId as Types;
@@ -95,15 +96,12 @@ fn kind(a: &Atom) -> AtomKind
     }
 }
 
-/// Whether the atom stands in an effect, where its message has this key.
-pub fn is_left(a: &Atom, key: u64, effect: &Option<Sum>) -> bool
-    ensures { (s : Store) (keys : Declared.Keys) (i : ℕ) (o : Option Term.Effect)
+/// Whether the atom stands in the effect of these counts, where its message has this key.
+pub fn is_left(a: &Atom, key: u64, sum: &Sum) -> bool
+    ensures { (s : Store) (keys : Declared.Keys) (i : ℕ) (es : Term.Effect)
         → with_keys s keys i (message_of (atom a.now))
-        → key ≡ key_of (name_bound (message_of (atom a.now))) i → CountsFor (with_keys s keys) effect.now o
-        → result ≡ has_left (atom a.now) o }
+        → key ≡ key_of (name_bound (message_of (atom a.now))) i → SumOf s keys sum.now es
+        → result ≡ has_left (atom a.now) (Some es) }
 {
-    match effect {
-        None => false,
-        Some(sum) => sum.count(kind(a), key) > 0,
-    }
+    sum.count(kind(a), key) > 0
 }

@@ -17,7 +17,7 @@ ghost use Rattle.spi_term.specs.View.{shape_of};
 
 use crate::NoMemory;
 use crate::adding::{adds, is_left};
-use spi_count::Sum;
+use spi_count::Pile;
 use spi_infer::{Noted, OwnNote, act_on};
 use spi_intern::Store;
 use spi_term::{Atom, Form, Node, Process};
@@ -39,16 +39,31 @@ impl Drop for Aim {
     }
 }
 
-// What is gathered in the process that begins first is kept.
-fn is_kept(aim: &Aim, stack: &[Option<Sum>]) -> bool
-    ensures { (s : Stores.Store) (keys : Keys.Keys) (st : List (Option Term.Effect))
-        → HasAimKey s keys aim.now → Tops s keys stack.now st → result ≡ keeps (aim_of aim.now) (top_sum st) }
+// What is gathered in the process that begins first is kept. No atom of its effect waits to be counted afterwards.
+fn is_kept(aim: &Aim, stack: &mut Vec<Option<Pile>>) -> Result<bool, NoMemory>
+    ensures kept { IfOk result
+        (λ b. (s : Stores.Store) (keys : Keys.Keys) (st : List (Option Term.Effect))
+        → HasAimKey s keys aim.now → Tops s keys stack.old.items st
+        → b ≡ keeps (aim_of aim.now) (top_sum st)) }
+    ensures stack { OnOk result
+        ((s : Stores.Store) (keys : Keys.Keys) (st : List (Option Term.Effect))
+        → Tops s keys stack.old.items st → Tops s keys stack.new.items st) }
 {
     match aim {
-        Aim::Blocking => true,
-        Aim::Origins(atom, key) => match stack.last() {
-            None => false,
-            Some(effect) => is_left(atom, *key, effect),
+        Aim::Blocking => Ok(true),
+        Aim::Origins(atom, key) => match stack.pop() {
+            None => Ok(false),
+            Some(None) => {
+                stack.push(None)?;
+                Ok(false)
+            }
+            Some(Some(pile)) => {
+                let mut settled = pile;
+                settled.settle()?;
+                let left = is_left(atom, *key, &settled.sum);
+                stack.push(Some(settled))?;
+                Ok(left)
+            }
         },
     }
 }
@@ -153,7 +168,7 @@ pub fn gathered_from(
         let node = process.node(id);
         let note = &noted.notes[id as usize];
         let stuck = act_on(alloc, store, &noted.keys, node, note, &mut stack)?;
-        let kept = is_kept(aim, &stack);
+        let kept = is_kept(aim, &mut stack)?;
         let picked = is_picked(aim, node, note, stuck);
         join(node, &mut marks, found.len())?;
         add_node(&mut found, &marks, id, kept, picked)?;

@@ -49,14 +49,14 @@ loop-id-preserved c =
     record {
       within = omega (arith, c.loop-id-test.true);
       stack_is = λ env h.
-          subst (Tops s noted.keys c.act_on.new.stack.items) (acted s noted k p env h i x c.node-node.ensures o c.index-note.ensures c.distinct.ensures.differ c.len-id.ensures.over c.loop-id.id z) (c.in_ok-stuck.ensures.stack (n env h) _ (b env h));
+          c.in_ok-kept.ensures.stack s noted.keys _ (subst (Tops s noted.keys c.act_on.new.stack.items) (acted s noted k p env h i x c.node-node.ensures o c.index-note.ensures c.distinct.ensures.differ c.len-id.ensures.over c.loop-id.id z) (c.in_ok-stuck.ensures.stack (n env h) _ (b env h)));
       found_is = λ env h.
           let tops = c.in_ok-stuck.ensures.stack (n env h) (st env) (b env h) in
           let stuck = c.in_ok-stuck.ensures.stuck (n env h) (st env) (b env h) in
-          let kept = c.is_kept-kept.ensures s noted.keys (act x (n env h) (st env)) c.requires.key (subst (λ l. Tops s noted.keys l (act x (n env h) (st env))) (sym c.deref.ensures.value) tops) in
+          let kept = c.in_ok-kept.ensures.kept s noted.keys (act x (n env h) (st env)) c.requires.key tops in
           let two = c.in_ok-join.ensures c.loop-id.found.items (ls env) (sym (c.len.ensures ∙ c.loop-id.found.ok.0)) (c.loop-id.invariant.found_is env h) in
-          let added = c.in_ok-add_node.ensures (joined_lists x (ls env)) (subst (λ l. MarkedStacks l c.loop-id.found.items (joined_lists x (ls env))) (sym c.deref-in-loop-id.ensures.value) two) in
-          stepped s noted k p env h i x c.node-node.ensures o c.index-note.ensures c.distinct.ensures.differ c.len-id.ensures.over c.loop-id.id z (aim_of c.args.aim.now) c.is_kept-kept.result c.is_picked-picked.result c.join.new.marks.items c.add_node.new.found.items kept (λ e. c.is_picked-picked.ensures s noted.keys (n env h) (st env) (b env h).noted stuck (sym kept ∙ e)) (subst (λ l. MarkedStacks l c.add_node.new.found.items (at_top (with_node c.is_kept-kept.result c.is_picked-picked.result i) (joined_lists x (ls env)))) c.deref-in-loop-id.ensures.value added);
+          let added = c.in_ok-add_node.ensures (joined_lists x (ls env)) (subst (λ l. MarkedStacks l c.loop-id.found.items (joined_lists x (ls env))) (sym c.deref.ensures.value) two) in
+          stepped s noted k p env h i x c.node-node.ensures o c.index-note.ensures c.distinct.ensures.differ c.len-id.ensures.over c.loop-id.id z (aim_of c.args.aim.now) c.in_ok-kept.kept c.is_picked-picked.result c.join.new.marks.items c.add_node.new.found.items kept (λ e. c.is_picked-picked.ensures s noted.keys (n env h) (st env) (b env h).noted stuck (sym kept ∙ e)) (subst (λ l. MarkedStacks l c.add_node.new.found.items (at_top (with_node c.in_ok-kept.kept c.is_picked-picked.result i) (joined_lists x (ls env)))) c.deref.ensures.value added);
     }
 
 pub returns : goal.returns
