@@ -13,6 +13,10 @@ abbrev pub by_arity : ℕ → Bool → Shape
 by_arity n true = Sub
 by_arity n false = if n == 0 then Leaf else (if n == 1 then One else (if n == 2 then Two else Three))
 
+abbrev pub is_rule : Shape → Bool
+is_rule NoRule = false
+is_rule _ = true
+
 abbrev pub IsTreeShape : Shape → Option ℕ → Bool → Type 0
 IsTreeShape NoRule a b = a ≡ None
 IsTreeShape Leaf a b = (a ≡ Some 0) × (b ≡ false)

@@ -4,16 +4,15 @@ ghost use Rattle.std.specs.Prelude.{◌≡◌, ◌+◌, ◌≤◌, None, [], ◌
 ghost use Rattle.spi_tree.specs.Trees.{derivs_of_list};
 ghost use Rattle.spi_tree.specs.Trees as trees;
 ghost use Rattle.spi_tree.specs.Views.{deriv_of, tree_effect};
-ghost use Rattle.spi_parse.specs.Places.{state_of, GivesBox};
+ghost use Rattle.spi_parse.specs.Places.{state_of, GivesPart};
 ghost use Rattle.spi_parse.specs.Ends.{done};
 ghost use Rattle.spi_parse.specs.Wholes.{one_form, two_form, three_form, sub_form};
 ghost use Rattle.spi_parse.specs.Rules.{arity_of, writes_effect, is_late};
-ghost use Rattle.spi_parse.specs.Shapes.{is_sub, by_arity, IsTreeShape};
+ghost use Rattle.spi_parse.specs.Shapes.{is_sub, is_rule, by_arity, IsTreeShape};
 ghost use Rattle.spi_parse.specs.Table.{deriv, over};
 ghost use Rattle.spi_parse.specs.Reading.{read, limited};
 
-use crate::NoMemory;
-use crate::cursor::{Cursor, DERIVATION_LIMIT, Read, copy_word, fits, span_from, syntax};
+use crate::cursor::{Cursor, DERIVATION_LIMIT, Read, accept, fits, placed_word, span_from, syntax};
 use crate::effects::effect;
 use crate::messages::Node;
 use spi_lex::Kind;
@@ -22,8 +21,8 @@ use spi_text::Span;
 use spi_tree::{SAtom, SDeriv, SWord};
 use std::alloc::Global;
 
-/// A use of a rule in a box, with the place behind it.
-type Part<'t> = Read<'t, Box<SDeriv>>;
+/// A use of a rule, with the place behind it.
+type Part<'t> = Read<'t, SDeriv>;
 
 /// What stands behind the word of a rule.
 #[derive(Clone, Copy)]
@@ -77,6 +76,16 @@ fn by_arity(arity: u32, sub: bool) -> Shape
     Shape::Three
 }
 
+/// Whether the word is a rule's.
+fn is_rule(shape: Shape) -> bool
+    ensures { result ≡ is_rule shape }
+{
+    match shape {
+        Shape::NoRule => false,
+        _ => true,
+    }
+}
+
 /// What stands behind this word, in a derivation of the version.
 fn shape_of(later: bool, word: &str) -> Shape
     ensures { IsTreeShape result (arity_of later word.now) (writes_effect word.now) }
@@ -104,21 +113,14 @@ fn make_use(rule: SWord, effect: Option<Vec<SAtom>>, premises: Vec<SDeriv>, span
     }
 }
 
-/// A use of a rule with no premise, as a box.
-fn leaf(alloc: Global, rule: SWord, span: Span) -> Result<Box<SDeriv>, NoMemory>
-    ensures { IfOk result (λ b. deriv_of b.value ≡ trees.rule span rule None (derivs_of_list [])) }
-{
-    let tree = make_use(rule, None, Vec::new(alloc), span);
-    Ok(Box::new(alloc, tree)?)
-}
-
-/// A use of a rule, of a nesting, as a box.
+/// A use of a rule, of a nesting.
 ///
-/// What reads a premise holds it as a box while it reads the next, so that deep derivations fit the stack.
+/// What reads a use holds the premises that it read in a vector, on the heap, while it reads the next, so that deep
+/// derivations fit the stack.
 #[cycle(derivations)]
-pub fn boxed_derivation(alloc: Global, at: Cursor<'_>, later: bool, nesting: u32) -> Part<'_>
+pub fn derivation(alloc: Global, at: Cursor<'_>, later: bool, nesting: u32) -> Part<'_>
     requires { nesting ≤ 1001 }
-    ensures { GivesBox deriv_of result (read limited (deriv later nesting) (state_of at.entry)) }
+    ensures { GivesPart deriv_of result (read limited (deriv later nesting) (state_of at.entry)) }
 {
     let [first, rest @ ..] = at.rest else {
         return Err(syntax(0));
@@ -127,77 +129,69 @@ pub fn boxed_derivation(alloc: Global, at: Cursor<'_>, later: bool, nesting: u32
         rest,
         end: first.span.to,
     };
-    match &first.kind {
-        Kind::Word(word) => {
-            let name = SWord {
-                word: copy_word(alloc, word)?,
-                span: first.span,
-            };
-            match shape_of(later, word.as_str()) {
-                Shape::NoRule => Err(syntax(at.rest.len())),
-                Shape::Leaf => {
-                    fits(nesting, DERIVATION_LIMIT, at.rest.len())?;
-                    Ok((leaf(alloc, name, first.span)?, next))
-                }
-                Shape::One => {
-                    fits(nesting, DERIVATION_LIMIT, at.rest.len())?;
-                    read_one(alloc, name, next, later, nesting)
-                }
-                Shape::Two => {
-                    fits(nesting, DERIVATION_LIMIT, at.rest.len())?;
-                    read_two(alloc, name, next, later, nesting)
-                }
-                Shape::Three => {
-                    fits(nesting, DERIVATION_LIMIT, at.rest.len())?;
-                    read_three(alloc, name, next, later, nesting)
-                }
-                Shape::Sub => {
-                    fits(nesting, DERIVATION_LIMIT, at.rest.len())?;
-                    read_sub(alloc, name, next, later, nesting)
-                }
-            }
-        }
-        _ => Err(syntax(at.rest.len())),
+    let Kind::Word(word) = &first.kind else {
+        return Err(syntax(at.rest.len()));
+    };
+    let shape = shape_of(later, word.as_str());
+    accept(is_rule(shape), at.rest.len())?;
+    fits(nesting, DERIVATION_LIMIT, at.rest.len())?;
+    let name = placed_word(alloc, word, first.span)?;
+    match shape {
+        Shape::NoRule => Err(syntax(at.rest.len())),
+        Shape::Leaf => end_use(name, None, Vec::new(alloc), next),
+        Shape::One => read_one(alloc, name, next, later, nesting),
+        Shape::Two => read_two(alloc, name, next, later, nesting),
+        Shape::Three => read_three(alloc, name, next, later, nesting),
+        Shape::Sub => read_sub(alloc, name, next, later, nesting),
     }
 }
 
 #[cycle(derivations)]
 fn read_one(alloc: Global, name: SWord, at: Cursor<'_>, later: bool, nesting: u32) -> Part<'_>
     requires { nesting ≤ 1000 }
-    ensures { GivesBox deriv_of result
+    ensures { GivesPart deriv_of result
         (one_form later nesting name.word (name.span ∷ []) (state_of at.entry)) }
 {
-    let (first, at) = boxed_derivation(alloc, at, later, nesting + 1)?;
-    end_one(alloc, name, None, first, at)
+    let mut premises = Vec::with_capacity(alloc, 1)?;
+    let (first, at) = derivation(alloc, at, later, nesting + 1)?;
+    premises.push(first)?;
+    end_use(name, None, premises, at)
 }
 
 #[cycle(derivations)]
 fn read_two(alloc: Global, name: SWord, at: Cursor<'_>, later: bool, nesting: u32) -> Part<'_>
     requires { nesting ≤ 1000 }
-    ensures { GivesBox deriv_of result
+    ensures { GivesPart deriv_of result
         (two_form later nesting name.word (name.span ∷ []) (state_of at.entry)) }
 {
-    let (first, at) = boxed_derivation(alloc, at, later, nesting + 1)?;
-    let (second, at) = boxed_derivation(alloc, at, later, nesting + 1)?;
-    end_two(alloc, name, first, second, at)
+    let mut premises = Vec::with_capacity(alloc, 2)?;
+    let (first, at) = derivation(alloc, at, later, nesting + 1)?;
+    premises.push(first)?;
+    let (second, at) = derivation(alloc, at, later, nesting + 1)?;
+    premises.push(second)?;
+    end_use(name, None, premises, at)
 }
 
 #[cycle(derivations)]
 fn read_three(alloc: Global, name: SWord, at: Cursor<'_>, later: bool, nesting: u32) -> Part<'_>
     requires { nesting ≤ 1000 }
-    ensures { GivesBox deriv_of result
+    ensures { GivesPart deriv_of result
         (three_form later nesting name.word (name.span ∷ []) (state_of at.entry)) }
 {
-    let (first, at) = boxed_derivation(alloc, at, later, nesting + 1)?;
-    let (second, at) = boxed_derivation(alloc, at, later, nesting + 1)?;
-    let (third, at) = boxed_derivation(alloc, at, later, nesting + 1)?;
-    end_three(alloc, name, first, second, third, at)
+    let mut premises = Vec::with_capacity(alloc, 3)?;
+    let (first, at) = derivation(alloc, at, later, nesting + 1)?;
+    premises.push(first)?;
+    let (second, at) = derivation(alloc, at, later, nesting + 1)?;
+    premises.push(second)?;
+    let (third, at) = derivation(alloc, at, later, nesting + 1)?;
+    premises.push(third)?;
+    end_use(name, None, premises, at)
 }
 
 #[cycle(derivations)]
 fn read_sub(alloc: Global, name: SWord, at: Cursor<'_>, later: bool, nesting: u32) -> Part<'_>
     requires { nesting ≤ 1000 }
-    ensures { GivesBox deriv_of result
+    ensures { GivesPart deriv_of result
         (sub_form later nesting name.word (name.span ∷ []) (state_of at.entry)) }
 {
     let atoms = Node {
@@ -206,69 +200,23 @@ fn read_sub(alloc: Global, name: SWord, at: Cursor<'_>, later: bool, nesting: u3
         nesting: 0,
     };
     let (effect, at) = effect(alloc, at, atoms)?;
-    let (first, at) = boxed_derivation(alloc, at, later, nesting + 1)?;
-    end_one(alloc, name, Some(effect), first, at)
+    let mut premises = Vec::with_capacity(alloc, 1)?;
+    let (first, at) = derivation(alloc, at, later, nesting + 1)?;
+    premises.push(first)?;
+    end_use(name, Some(effect), premises, at)
 }
 
-/// The use of a rule with one premise, which ends before this place.
-fn end_one(
-    alloc: Global,
+/// The use of a rule with these premises, which ends before this place.
+fn end_use(
     rule: SWord,
     effect: Option<Vec<SAtom>>,
-    first: Box<SDeriv>,
+    premises: Vec<SDeriv>,
     at: Cursor<'_>,
 ) -> Part<'_>
-    ensures { GivesBox deriv_of result
+    ensures { GivesPart deriv_of result
         (done (trees.rule (over (rule.span ∷ []) at.entry.end) rule (tree_effect effect)
-        (derivs_of_list (deriv_of first.value ∷ []))) (state_of at.entry)) }
+        (derivs_of_list (map deriv_of premises.items))) (state_of at.entry)) }
 {
     let span = span_from(rule.span, at);
-    let premises = [Box::into_inner(first)];
-    let premises = Vec::from_array(alloc, premises)?;
-    let tree = make_use(rule, effect, premises, span);
-    Ok((Box::new(alloc, tree)?, at))
-}
-
-/// The use of a rule with two premises, which ends before this place.
-fn end_two(
-    alloc: Global,
-    rule: SWord,
-    first: Box<SDeriv>,
-    second: Box<SDeriv>,
-    at: Cursor<'_>,
-) -> Part<'_>
-    ensures { GivesBox deriv_of result
-        (done (trees.rule (over (rule.span ∷ []) at.entry.end) rule None
-        (derivs_of_list (deriv_of first.value ∷ deriv_of second.value ∷ []))) (state_of at.entry)) }
-{
-    let span = span_from(rule.span, at);
-    let premises = [Box::into_inner(first), Box::into_inner(second)];
-    let premises = Vec::from_array(alloc, premises)?;
-    let tree = make_use(rule, None, premises, span);
-    Ok((Box::new(alloc, tree)?, at))
-}
-
-/// The use of a rule with three premises, which ends before this place.
-fn end_three(
-    alloc: Global,
-    rule: SWord,
-    first: Box<SDeriv>,
-    second: Box<SDeriv>,
-    third: Box<SDeriv>,
-    at: Cursor<'_>,
-) -> Part<'_>
-    ensures { GivesBox deriv_of result
-        (done (trees.rule (over (rule.span ∷ []) at.entry.end) rule None
-        (derivs_of_list (deriv_of first.value ∷ deriv_of second.value ∷ deriv_of third.value ∷ [])))
-        (state_of at.entry)) }
-{
-    let span = span_from(rule.span, at);
-    let premises = [
-        Box::into_inner(first),
-        Box::into_inner(second),
-        Box::into_inner(third),
-    ];
-    let premises = Vec::from_array(alloc, premises)?;
-    let tree = make_use(rule, None, premises, span);
-    Ok((Box::new(alloc, tree)?, at))
+    Ok((make_use(rule, effect, premises, span), at))
 }

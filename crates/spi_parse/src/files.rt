@@ -9,7 +9,7 @@ ghost use Rattle.spi_parse.specs.Reading.{read, limited};
 
 use crate::cursor::{Cursor, Read, next_token, span_from, syntax};
 use crate::declarations::all_declarations;
-use crate::derivations::boxed_derivation;
+use crate::derivations::derivation;
 use crate::processes::process;
 use crate::reading::{take_mark, take_two};
 use crate::schedules::all_steps;
@@ -66,8 +66,8 @@ fn derivation_part(alloc: Global, at: Cursor<'_>, later: bool) -> Read<'_, Optio
     };
     match first.kind {
         Kind::Reserved(Reserved::Derivation) => {
-            let (part, at) = boxed_derivation(alloc, next, later, 1)?;
-            Ok((Some(Box::into_inner(part)), at))
+            let (part, at) = derivation(alloc, next, later, 1)?;
+            Ok((Some(part), at))
         }
         _ => Ok((None, at)),
     }

@@ -1,8 +1,8 @@
 use Rattle.std.proofs.Common.{◌+◌, ◌-◌, ◌*◌}
 use Rattle.spi_parse.proofs.derivations.+derivations.Given as goal
 
-abbrev pub decreases-boxed_derivation : goal.decreases-boxed_derivation
-decreases-boxed_derivation l = 20 * (1001 - l.nesting) + 1
+abbrev pub decreases-derivation : goal.decreases-derivation
+decreases-derivation l = 20 * (1001 - l.nesting) + 1
 
 abbrev pub decreases-read_one : goal.decreases-read_one
 decreases-read_one l = 20 * (1001 - l.nesting) + 0
