@@ -1,5 +1,5 @@
 -- Counts that are gone over in the order of their keys, and what is left of them.
-use Rattle.std.proofs.Common.{◌≡◌, ◌≢◌, refl, sym, ap, ◌∙◌, subst, ℕ, ◌+◌, ◌<◌, ⊎_elim, ◌⊎◌, inl, inr, List, [], ◌∷◌, Some, None, arith, true, false, Bool, cond, eq-eqb, Less, Equal, Greater}
+use Rattle.std.proofs.Common.{◌≡◌, ◌≢◌, refl, sym, ap, ◌∙◌, subst, ℕ, ◌+◌, ◌<◌, ⊎_elim, ◌⊎◌, inl, inr, List, [], ◌∷◌, Some, arith, true, false, eq-eqb, Less, Equal, Greater}
 use Rattle.std.proofs.lemmas.Bool.{cases_eq, cases_order, ne_eqb}
 use Rattle.std.proofs.lemmas.Cmp.{nat_cmp_total}
 use Rattle.std.proofs.lemmas.Map.{lookup-none}
@@ -12,7 +12,7 @@ use Rattle.std.specs.Map.{lookup, keys_of}
 use Rattle.std.specs.Cmp.{nat_cmp_is}
 use Rattle.std.specs.Ordering.{nat_cmp, is_eq}
 use Rattle.std.specs.BTreeMap.{BTreeMap, get, is_at, IsOrdered}
-use Rattle.spi_count.specs.Counts.{ArePositive, count_of, Sets}
+use Rattle.spi_count.specs.Counts.{ArePositive, count_of}
 
 -- how high a key is counted in entries
 abbrev pub left_at : List (ℕ × ℕ) → ℕ → ℕ

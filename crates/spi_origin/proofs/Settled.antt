@@ -1,5 +1,5 @@
 -- The top of the stack of counts, of which no atom waits any more.
-use Rattle.std.proofs.Common.{◌≡◌, refl, sym, ap, ◌∙◌, subst, ℕ, Bool, false, List, [], ◌∷◌, ◌++◌, reverse, Option, Some, None}
+use Rattle.std.proofs.Common.{◌≡◌, refl, sym, ap, subst, ℕ, Bool, false, List, [], ◌∷◌, ◌++◌, reverse, Option, Some, None}
 use Rattle.spi_term.specs.Term.{Atom, Effect}
 use Rattle.spi_intern.specs.declared.store.Store.{Store}
 use Rattle.spi_count.specs.Counts.{count_of}

@@ -1,4 +1,4 @@
-use Rattle.std.proofs.Common.{refl, subst, None}
+use Rattle.std.proofs.Common.{refl, subst}
 use Rattle.spi_infer.specs.Accounts.{BothCase}
 use Rattle.spi_infer.proofs.Formed.{sides_both, sides_none}
 use Rattle.spi_infer.proofs.sums.both_sides.Goals as goal
