@@ -58,8 +58,8 @@ pub record AddsProcess (old new : Scope) (before after : Arena) (xs : Names) (p 
   pub types : new.types ≡ old.types
   pub few : new.count ≤ 100000
 
--- how the forms of a process are read: those with messages alone before what comes behind, those with a message and the
--- type of a name, those that open what they bind, those that take a pair apart, and the others
+-- how the forms of a process are read: those with messages alone before the process behind, those with a message and
+-- the type of a name, those that open what they bind, those that take a pair apart, and the others, outputs among them
 pub data FormKind : Type 0 where
   messages_form : FormKind
   typed_form : FormKind
@@ -69,8 +69,8 @@ pub data FormKind : Type 0 where
 
 abbrev pub form_kind : t.Proc → FormKind
 form_kind (t.par s p q) = other_form
-form_kind (t.out s m n) = messages_form
-form_kind (t.out_then s m n p) = messages_form
+form_kind (t.out s m n) = other_form
+form_kind (t.out_then s m n p) = other_form
 form_kind (t.inp s m x a p) = typed_form
 form_kind (t.repeat s m x a p) = typed_form
 form_kind (t.split s m x a y c p) = pair_form

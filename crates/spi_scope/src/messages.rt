@@ -139,7 +139,7 @@ pub fn read_message(
     }
 }
 
-/// A tuple, as any message.
+/// The message that a tuple stands for, with its nodes counted on.
 #[cycle(messages)]
 fn read_tuple(
     alloc: Global,
@@ -170,7 +170,7 @@ fn read_tuple(
     }
 }
 
-/// The message in a box, with its nodes counted on.
+/// The message that this one stands for, in a box, with its nodes counted on.
 #[cycle(messages)]
 fn read_boxed(
     alloc: Global,
@@ -187,7 +187,7 @@ fn read_boxed(
     Ok((Box::new(alloc, read)?, total))
 }
 
-/// The message `inl M` for this part.
+/// The message that `inl M` stands for, of this `M`.
 #[cycle(messages)]
 fn read_inl(
     alloc: Global,
@@ -204,7 +204,7 @@ fn read_inl(
     Ok((Msg::Inl(part), total))
 }
 
-/// The message `inr M` for this part.
+/// The message that `inr M` stands for, of this `M`.
 #[cycle(messages)]
 fn read_inr(
     alloc: Global,
@@ -221,7 +221,7 @@ fn read_inr(
     Ok((Msg::Inr(part), total))
 }
 
-/// An encrypted message, as any message.
+/// The message that `{M}N` stands for, with its nodes counted on.
 #[cycle(messages)]
 fn read_enc(
     alloc: Global,
@@ -245,7 +245,7 @@ fn read_enc(
     }
 }
 
-/// The message `hash(M)` for this part.
+/// The message that `hash(M)` stands for, of this `M`.
 #[cycle(messages)]
 fn read_hash(
     alloc: Global,
@@ -286,7 +286,7 @@ fn read_more(
     }
 }
 
-/// The second component of a tuple and the last, which is the one behind it.
+/// The pair of the second component of a tuple and the last, which is right behind it.
 #[cycle(messages)]
 fn read_last(
     alloc: Global,
@@ -300,14 +300,15 @@ fn read_last(
         (λ _. row_nodes (messages_in base scope.now.held.names (more_msgs (msg_of last.now) no_msgs))) result
         (run (messages_points scope.now.held.names (more_msgs (msg_of last.now) no_msgs)) scope.now.count)
         scope.now.count spent
-        (nested (message next) (messages_in base scope.now.held.names (more_msgs (msg_of last.now) no_msgs))) }
+        (nested (message next)
+        (messages_in base scope.now.held.names (more_msgs (msg_of last.now) no_msgs))) }
 {
     let (last, total) = read_message(alloc, scope, base, spent.saturating_add(1), last)?;
     let whole = paired(alloc, next, last)?;
     Ok((whole, total))
 }
 
-/// The second component of a tuple with all those behind it.
+/// The second component of a tuple with those behind it, of which there are several.
 #[cycle(messages)]
 fn read_rest(
     alloc: Global,

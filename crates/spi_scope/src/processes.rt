@@ -68,8 +68,17 @@ pub fn read_process<'t>(
 {
     match p {
         SProc::Stop { span } => stop(scope, arena, *span),
-        SProc::Out { .. } => read_messages_form(alloc, scope, arena, p),
-        SProc::OutThen { .. } => read_messages_form(alloc, scope, arena, p),
+        SProc::Out {
+            channel,
+            datum,
+            span,
+        } => send(alloc, scope, arena, channel, datum, *span),
+        SProc::OutThen {
+            channel,
+            datum,
+            then,
+            span,
+        } => send_then(alloc, scope, arena, channel, datum, then, *span),
         SProc::Check { .. } => read_messages_form(alloc, scope, arena, p),
         SProc::Begin { .. } => read_messages_form(alloc, scope, arena, p),
         SProc::End { .. } => read_messages_form(alloc, scope, arena, p),
@@ -98,7 +107,7 @@ pub fn read_process<'t>(
     }
 }
 
-/// A form with messages alone before what comes behind it.
+/// A form with messages alone before the process behind it, but for an output.
 #[cycle(processes)]
 fn read_messages_form<'t>(
     alloc: Global,
@@ -114,17 +123,6 @@ fn read_messages_form<'t>(
         (AddsProcess scope.old scope.new arena.old arena.new scope.old.held.names (proc_of p.entry.now)) }
 {
     match p {
-        SProc::Out {
-            channel,
-            datum,
-            span,
-        } => send(alloc, scope, arena, channel, datum, *span),
-        SProc::OutThen {
-            channel,
-            datum,
-            then,
-            span,
-        } => send_then(alloc, scope, arena, channel, datum, then, *span),
         SProc::Check {
             whole,
             nonce,

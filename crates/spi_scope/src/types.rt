@@ -110,7 +110,7 @@ fn read_atoms(
     Ok((read, total))
 }
 
-/// The type `Nonce [..]` of these atoms.
+/// The type of nonces with this effect.
 fn read_nonce(
     alloc: Global,
     scope: &Scope,
@@ -214,7 +214,7 @@ pub fn read_type<'t>(
     }
 }
 
-/// A tuple type, as any type.
+/// The type that a tuple type stands for, with its nodes counted on.
 #[cycle(types)]
 fn read_tuple<'t>(
     alloc: Global,
@@ -251,7 +251,7 @@ fn read_tuple<'t>(
     }
 }
 
-/// A sum type, as any type.
+/// The type that a sum type stands for, with its nodes counted on.
 #[cycle(types)]
 fn read_sum<'t>(
     alloc: Global,
@@ -278,7 +278,7 @@ fn read_sum<'t>(
     }
 }
 
-/// The type `Key(T)` for this part.
+/// The type that `Key(T)` stands for, of this `T`.
 #[cycle(types)]
 fn read_key<'t>(
     alloc: Global,
