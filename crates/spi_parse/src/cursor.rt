@@ -58,6 +58,7 @@ pub fn accept(allowed: bool, left: usize) -> Result<(), Stop>
 }
 
 /// The same word.
+#[inline(always)]
 pub fn copy_word(alloc: Global, word: &Text) -> Result<Text, NoMemory>
     ensures { IfOk result (λ text. text ≡ word.now) }
 {
@@ -65,6 +66,7 @@ pub fn copy_word(alloc: Global, word: &Text) -> Result<Text, NoMemory>
 }
 
 /// The same word, with where it stands.
+#[inline(always)]
 pub fn placed_word(alloc: Global, word: &Text, span: Span) -> Result<SWord, NoMemory>
     ensures { IfOk result (λ name. name ≡ word_at word.now span) }
 {

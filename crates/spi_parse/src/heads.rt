@@ -20,6 +20,7 @@ use std::alloc::Global;
 type TypedName<'t> = Result<(SWord, STy, Cursor<'t>), Stop>;
 
 /// A name with its type.
+#[inline(always)]
 fn named(alloc: Global, at: Cursor<'_>, later: bool) -> TypedName<'_>
     ensures { GivesName result (read limited (named later) (state_of at.entry)) }
 {
@@ -41,6 +42,7 @@ fn take_closing(at: Cursor<'_>) -> Result<Cursor<'_>, Stop>
 }
 
 /// A name with its type in parentheses, and the semicolon.
+#[inline(always)]
 pub fn binder(alloc: Global, at: Cursor<'_>, later: bool) -> TypedName<'_>
     ensures { GivesName result (read limited (binder later) (state_of at.entry)) }
 {

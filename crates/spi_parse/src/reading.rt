@@ -30,6 +30,7 @@ fn is_the_word(word: Reserved, kind: &Kind) -> bool
 }
 
 /// Takes the mark.
+#[inline(always)]
 pub fn take_mark(at: Cursor<'_>, mark: Mark) -> Result<Cursor<'_>, Stop>
     ensures { GivesPlace result (read limited (the_mark mark) (state_of at.entry)) }
 {
@@ -48,6 +49,7 @@ pub fn take_reserved(at: Cursor<'_>, word: Reserved) -> Result<Cursor<'_>, Stop>
 }
 
 /// Takes a word.
+#[inline(always)]
 pub fn take_word(alloc: Global, at: Cursor<'_>) -> Read<'_, SWord>
     ensures { GivesPart (λ part. part) result (read limited the_word (state_of at.entry)) }
 {

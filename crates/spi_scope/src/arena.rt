@@ -31,6 +31,7 @@ pub fn here(arena: &Arena) -> Result<u32, NoMemory>
 }
 
 /// One more node, with the names in scope there.
+#[inline(always)]
 pub fn push(
     scope: &mut Scope,
     arena: &mut Arena,

@@ -36,6 +36,7 @@ pub fn add(scope: &mut Scope, nodes: u64, span: Span) -> Result<(), ScopeFault>
 
 /// An outermost message.
 #[tactic(auto, unfolding(crate::specs::Points::part))]
+#[inline(always)]
 pub fn read_part(alloc: Global, scope: &mut Scope, base: u32, m: &SMsg) -> Result<Msg, ScopeFault>
     requires few { scope.old.count ≤ 100000 }
     ensures gives { GivesMeant message result (run (part scope.old.held.names (msg_of m.now)) scope.old.count)
@@ -90,6 +91,7 @@ fn read_bounded<'t>(
 
 /// An annotation, or the type of an abbreviation, with its nodes.
 #[tactic(auto, unfolding(crate::specs::Points::whole_type))]
+#[inline(always)]
 pub fn read_annotation<'t>(
     alloc: Global,
     scope: &mut Scope<'t>,

@@ -83,6 +83,7 @@ fn nest_small(alloc: Global, total: u64, first: Msg, more: Vec<Msg>) -> Result<M
 }
 
 /// The pair of two messages.
+#[inline(always)]
 fn paired(alloc: Global, first: Msg, second: Msg) -> Result<Msg, AllocError>
     ensures { IfOk result (λ m. message m ≡ pair (message first) (message second)) }
 {

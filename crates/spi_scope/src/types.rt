@@ -172,6 +172,7 @@ fn nest_types(
 }
 
 /// The type of pairs of these two.
+#[inline(always)]
 fn paired(alloc: Global, first: Ty, second: Ty) -> Result<Ty, AllocError>
     ensures { IfOk result (λ t. ty t ≡ pair_ty (ty first) (ty second)) }
 {
