@@ -58,8 +58,8 @@ fn note_cast_typed(
     match t {
         Ty::Un => Ok(Note::LeaveOne(scope)),
         Ty::Unit => Ok(Note::LeaveOne(scope)),
-        Ty::Pair(_, _) => Ok(Note::LeaveOne(scope)),
-        Ty::Sum(_, _) => Ok(Note::LeaveOne(scope)),
+        Ty::Pair(_) => Ok(Note::LeaveOne(scope)),
+        Ty::Sum(_) => Ok(Note::LeaveOne(scope)),
         Ty::Key(_) => Ok(Note::LeaveOne(scope)),
         Ty::Nonce(e) => note_cast(alloc, judge, keys, scope, t, e),
     }

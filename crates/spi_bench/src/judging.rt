@@ -25,8 +25,8 @@ fn is_made(t: &Ty) -> bool
         Ty::Un => true,
         Ty::Key(_) => true,
         Ty::Unit => false,
-        Ty::Pair(_, _) => false,
-        Ty::Sum(_, _) => false,
+        Ty::Pair(_) => false,
+        Ty::Sum(_) => false,
         Ty::Nonce(_) => false,
     }
 }

@@ -34,10 +34,10 @@ fn shared_name_of(free: u32, shared: usize, m: &Msg) -> Option<usize>
         }
         Msg::Bound(_) => None,
         Msg::Unit => None,
-        Msg::Pair(_, _) => None,
+        Msg::Pair(_) => None,
         Msg::Inl(_) => None,
         Msg::Inr(_) => None,
-        Msg::Enc(_, _) => None,
+        Msg::Enc(_) => None,
         Msg::Hash(_) => None,
     }
 }

@@ -139,14 +139,14 @@ pub fn lacking_label(alloc: Global, env: &Env, m: &Msg) -> Result<Option<Blame>,
         },
         Msg::Bound(_) => no_label(alloc, m),
         Msg::Unit => Ok(None),
-        Msg::Pair(a, b) => {
-            let first = lacking_label(alloc, env, a)?;
-            let second = lacking_label(alloc, env, b)?;
+        Msg::Pair(two) => {
+            let first = lacking_label(alloc, env, &two.first)?;
+            let second = lacking_label(alloc, env, &two.second)?;
             of_two(first, second)
         }
         Msg::Inl(a) => of_one(lacking_label(alloc, env, a)?),
         Msg::Inr(a) => of_one(lacking_label(alloc, env, a)?),
-        Msg::Enc(a, k) => lacking_sealed(alloc, env, a, k),
+        Msg::Enc(sealed) => lacking_sealed(alloc, env, &sealed.body, &sealed.key),
         Msg::Hash(a) => of_one(lacking_label(alloc, env, a)?),
     }
 }
@@ -205,26 +205,26 @@ pub fn lacking(alloc: Global, env: &Env, m: &Msg, t: &Ty) -> Result<Option<Blame
             Ty::Un | Ty::Unit => Ok(None),
             _ => itself(alloc, m, t),
         },
-        Msg::Pair(a, b) => match t {
-            Ty::Un => lacking_both(alloc, env, a, t, b, t),
-            Ty::Pair(u, v) => {
-                let wanted = opened(alloc, v, a)?;
-                lacking_both(alloc, env, a, u, b, &wanted)
+        Msg::Pair(two) => match t {
+            Ty::Un => lacking_both(alloc, env, &two.first, t, &two.second, t),
+            Ty::Pair(types) => {
+                let wanted = opened(alloc, &types.second, &two.first)?;
+                lacking_both(alloc, env, &two.first, &types.first, &two.second, &wanted)
             }
             _ => itself(alloc, m, t),
         },
         Msg::Inl(a) => match t {
             Ty::Un => of_one(lacking(alloc, env, a, t)?),
-            Ty::Sum(u, _) => of_one(lacking(alloc, env, a, u)?),
+            Ty::Sum(types) => of_one(lacking(alloc, env, a, &types.first)?),
             _ => itself(alloc, m, t),
         },
         Msg::Inr(a) => match t {
             Ty::Un => of_one(lacking(alloc, env, a, t)?),
-            Ty::Sum(_, u) => of_one(lacking(alloc, env, a, u)?),
+            Ty::Sum(types) => of_one(lacking(alloc, env, a, &types.second)?),
             _ => itself(alloc, m, t),
         },
-        Msg::Enc(a, k) => match t {
-            Ty::Un => lacking_sealed(alloc, env, a, k),
+        Msg::Enc(sealed) => match t {
+            Ty::Un => lacking_sealed(alloc, env, &sealed.body, &sealed.key),
             _ => itself(alloc, m, t),
         },
         Msg::Hash(a) => match t {

@@ -24,10 +24,10 @@ fn bound_of(m: &Msg) -> u64
         Msg::Bound(_) => 0,
         Msg::Name(x) => *x as u64 + 1,
         Msg::Unit => 0,
-        Msg::Pair(a, b) => bound_of(a).max(bound_of(b)),
+        Msg::Pair(two) => bound_of(&two.first).max(bound_of(&two.second)),
         Msg::Inl(a) => bound_of(a),
         Msg::Inr(a) => bound_of(a),
-        Msg::Enc(a, b) => bound_of(a).max(bound_of(b)),
+        Msg::Enc(sealed) => bound_of(&sealed.body).max(bound_of(&sealed.key)),
         Msg::Hash(a) => bound_of(a),
     }
 }

@@ -124,16 +124,18 @@ impl<'f> Follower<'f> {
             Msg::Bound(i) => Ok(Msg::Bound(*i)),
             Msg::Name(x) => self.named(last, scope, *x),
             Msg::Unit => Ok(Msg::Unit),
-            Msg::Pair(a, b) => Ok(Msg::Pair(
-                boxed(self.alloc, self.instance(last, scope, a))?,
-                boxed(self.alloc, self.instance(last, scope, b))?,
-            )),
+            Msg::Pair(two) => {
+                let first = self.instance(last, scope, &two.first)?;
+                let second = self.instance(last, scope, &two.second)?;
+                Msg::paired(self.alloc, first, second)
+            }
             Msg::Inl(a) => Ok(Msg::Inl(boxed(self.alloc, self.instance(last, scope, a))?)),
             Msg::Inr(a) => Ok(Msg::Inr(boxed(self.alloc, self.instance(last, scope, a))?)),
-            Msg::Enc(a, b) => Ok(Msg::Enc(
-                boxed(self.alloc, self.instance(last, scope, a))?,
-                boxed(self.alloc, self.instance(last, scope, b))?,
-            )),
+            Msg::Enc(sealed) => {
+                let body = self.instance(last, scope, &sealed.body)?;
+                let key = self.instance(last, scope, &sealed.key)?;
+                Msg::sealed(self.alloc, body, key)
+            }
             Msg::Hash(a) => Ok(Msg::Hash(boxed(self.alloc, self.instance(last, scope, a))?)),
         }
     }
@@ -154,9 +156,9 @@ impl<'f> Follower<'f> {
     // A place that goes on with both parts of a pair, with the second or with neither.
     fn split(&mut self, at: Standing, whole: &Msg) -> Result<Standing, NoMemory> {
         match whole {
-            Msg::Pair(first, second) => {
-                let once = self.below(at, first)?;
-                self.below(once, second)
+            Msg::Pair(two) => {
+                let once = self.below(at, &two.first)?;
+                self.below(once, &two.second)
             }
             _ => Ok(at),
         }
@@ -165,10 +167,10 @@ impl<'f> Follower<'f> {
     // A place that goes on with what is in a message.
     fn opened(&mut self, at: Standing, whole: &Msg) -> Result<Standing, NoMemory> {
         match whole {
-            Msg::Pair(_, second) => self.below(at, second),
+            Msg::Pair(two) => self.below(at, &two.second),
             Msg::Inl(part) => self.below(at, part),
             Msg::Inr(part) => self.below(at, part),
-            Msg::Enc(body, _) => self.below(at, body),
+            Msg::Enc(sealed) => self.below(at, &sealed.body),
             _ => Ok(at),
         }
     }

@@ -62,11 +62,11 @@ pub fn put_message(
         Msg::Bound(_) => Ok(()),
         Msg::Name(x) => put_name(alloc, out, names, *x),
         Msg::Unit => put(out, "()"),
-        Msg::Pair(a, b) => {
+        Msg::Pair(two) => {
             put(out, "(")?;
-            put_message(alloc, out, names, a)?;
+            put_message(alloc, out, names, &two.first)?;
             put(out, ", ")?;
-            put_rest(alloc, out, names, b)?;
+            put_rest(alloc, out, names, &two.second)?;
             put(out, ")")
         }
         Msg::Inl(a) => {
@@ -77,11 +77,11 @@ pub fn put_message(
             put(out, "inr ")?;
             put_message(alloc, out, names, a)
         }
-        Msg::Enc(a, b) => {
+        Msg::Enc(sealed) => {
             put(out, "{")?;
-            put_message(alloc, out, names, a)?;
+            put_message(alloc, out, names, &sealed.body)?;
             put(out, "}")?;
-            put_message(alloc, out, names, b)
+            put_message(alloc, out, names, &sealed.key)
         }
         Msg::Hash(a) => {
             put(out, "hash(")?;
@@ -95,10 +95,10 @@ pub fn put_message(
 #[cycle(messages)]
 fn put_rest(alloc: Global, out: &mut Vec<u8>, names: &Naming<'_>, m: &Msg) -> Result<(), NoMemory> {
     match m {
-        Msg::Pair(a, b) => {
-            put_message(alloc, out, names, a)?;
+        Msg::Pair(two) => {
+            put_message(alloc, out, names, &two.first)?;
             put(out, ", ")?;
-            put_rest(alloc, out, names, b)
+            put_rest(alloc, out, names, &two.second)
         }
         _ => put_message(alloc, out, names, m),
     }

@@ -64,7 +64,7 @@ fn push_pair(
 {
     match wanted {
         Ty::Un => push_both(Rule::MsgPairUn, a, &Ty::Un, b, &Ty::Un, types, out),
-        Ty::Pair(first, second) => push_both(Rule::MsgPair, a, first, b, second, types, out),
+        Ty::Pair(two) => push_both(Rule::MsgPair, a, &two.first, b, &two.second, types, out),
         _ => Ok(()),
     }
 }
@@ -92,7 +92,7 @@ fn push_left(a: &Msg, wanted: &Ty, types: &[&Ty], out: &mut Vec<RuleUse>) -> Res
 {
     match wanted {
         Ty::Un => push_one(Rule::MsgInlUn, a, &Ty::Un, types, out),
-        Ty::Sum(left, _) => push_one(Rule::MsgInl, a, left, types, out),
+        Ty::Sum(two) => push_one(Rule::MsgInl, a, &two.first, types, out),
         _ => Ok(()),
     }
 }
@@ -104,7 +104,7 @@ fn push_right(a: &Msg, wanted: &Ty, types: &[&Ty], out: &mut Vec<RuleUse>) -> Re
 {
     match wanted {
         Ty::Un => push_one(Rule::MsgInrUn, a, &Ty::Un, types, out),
-        Ty::Sum(_, right) => push_one(Rule::MsgInr, a, right, types, out),
+        Ty::Sum(two) => push_one(Rule::MsgInr, a, &two.second, types, out),
         _ => Ok(()),
     }
 }
@@ -135,10 +135,10 @@ pub fn push_message(
         Msg::Bound(_) => Ok(()),
         Msg::Name(_) => push_rule(Rule::MsgName, out),
         Msg::Unit => push_unit(wanted, out),
-        Msg::Pair(a, b) => push_pair(a, b, wanted, types, out),
+        Msg::Pair(two) => push_pair(&two.first, &two.second, wanted, types, out),
         Msg::Inl(a) => push_left(a, wanted, types, out),
         Msg::Inr(a) => push_right(a, wanted, types, out),
-        Msg::Enc(a, key) => push_enc(a, key, types, out),
+        Msg::Enc(sealed) => push_enc(&sealed.body, &sealed.key, types, out),
         Msg::Hash(_) => push_rule(Rule::MsgHash, out),
     }
 }
@@ -157,8 +157,16 @@ pub fn push_at_pair(
 {
     match m {
         Msg::Name(_) => push_rule(Rule::MsgName, out),
-        Msg::Pair(a, b) => push_both(Rule::MsgPair, a, first, b, second, types, out),
-        Msg::Enc(a, key) => push_enc(a, key, types, out),
+        Msg::Pair(two) => push_both(
+            Rule::MsgPair,
+            &two.first,
+            first,
+            &two.second,
+            second,
+            types,
+            out,
+        ),
+        Msg::Enc(sealed) => push_enc(&sealed.body, &sealed.key, types, out),
         Msg::Hash(_) => push_rule(Rule::MsgHash, out),
         _ => Ok(()),
     }
@@ -180,7 +188,7 @@ pub fn push_at_sum(
         Msg::Name(_) => push_rule(Rule::MsgName, out),
         Msg::Inl(a) => push_one(Rule::MsgInl, a, left, types, out),
         Msg::Inr(a) => push_one(Rule::MsgInr, a, right, types, out),
-        Msg::Enc(a, key) => push_enc(a, key, types, out),
+        Msg::Enc(sealed) => push_enc(&sealed.body, &sealed.key, types, out),
         Msg::Hash(_) => push_rule(Rule::MsgHash, out),
         _ => Ok(()),
     }

@@ -55,7 +55,7 @@ fn is_pair_type(t: &Ty) -> bool
     ensures { result ≡ is_pair_ty (Some (type_of t.now)) }
 {
     match t {
-        Ty::Pair(_, _) => true,
+        Ty::Pair(_) => true,
         _ => false,
     }
 }
@@ -69,7 +69,7 @@ pub fn is_pair(types: &[&Ty], m: &Msg) -> bool
             Some(t) => is_pair_type(t),
             None => false,
         },
-        Msg::Pair(_, _) => true,
+        Msg::Pair(_) => true,
         _ => false,
     }
 }
@@ -78,7 +78,7 @@ fn is_sum_type(t: &Ty) -> bool
     ensures { result ≡ is_sum_ty (Some (type_of t.now)) }
 {
     match t {
-        Ty::Sum(_, _) => true,
+        Ty::Sum(_) => true,
         _ => false,
     }
 }

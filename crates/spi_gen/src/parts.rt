@@ -6,7 +6,7 @@ ghost use Rattle.spi_gen.specs.Handshake as H;
 
 use crate::NoMemory;
 use spi_text::{Span, Text};
-use spi_tree::{Decl, Last, SAtom, SMsg, SProc, STy, SWord};
+use spi_tree::{Decl, Last, MsgParts, SAtom, SMsg, SProc, STy, SWord, TyParts};
 use std::alloc::Global;
 
 /// The empty span at 0: what is made here stands nowhere in a text.
@@ -26,7 +26,6 @@ fn name(alloc: Global, spelling: &str) -> Result<SMsg, NoMemory>
 {
     Ok(SMsg::Name {
         name: word(alloc, spelling)?,
-        span: NOWHERE,
     })
 }
 
@@ -35,10 +34,13 @@ fn tuple(alloc: Global, first: SMsg, second: SMsg, more: Vec<SMsg>) -> Result<SM
         (λ m. msg_of m
         ≡ t.tuple t.nowhere (msg_of first) (msg_of second) (t.msgs_of_list (map msg_of more.items))) }
 {
-    Ok(SMsg::Tuple {
-        first: Box::new(alloc, first)?,
-        second: Box::new(alloc, second)?,
+    let parts = MsgParts {
+        first,
+        second,
         more,
+    };
+    Ok(SMsg::Tuple {
+        parts: Box::new(alloc, parts)?,
         span: NOWHERE,
     })
 }
@@ -83,11 +85,14 @@ fn pair_type(alloc: Global, name: SWord, first: STy, last: Last) -> Result<STy, 
     ensures { IfOk result
         (λ a. ty_of a ≡ t.tuple_ty t.nowhere name (ty_of first) t.no_fields (last_of last)) }
 {
-    Ok(STy::Tuple {
+    let parts = TyParts {
         name,
-        first: Box::new(alloc, first)?,
+        first,
         more: Vec::new(alloc),
-        last: Box::new(alloc, last)?,
+        last,
+    };
+    Ok(STy::Tuple {
+        parts: Box::new(alloc, parts)?,
         span: NOWHERE,
     })
 }
@@ -104,7 +109,6 @@ fn answer_name(alloc: Global) -> Result<STy, NoMemory>
 {
     Ok(STy::Abbr {
         name: word(alloc, "Msg")?,
-        span: NOWHERE,
     })
 }
 

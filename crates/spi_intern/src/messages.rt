@@ -313,9 +313,9 @@ impl Messages {
             Msg::Bound(i) => self.put_bound(*i),
             Msg::Name(x) => self.put_name(*x),
             Msg::Unit => self.put_unit(),
-            Msg::Pair(a, b) => {
-                let first = self.intern(a)?;
-                let second = self.intern(b)?;
+            Msg::Pair(two) => {
+                let first = self.intern(&two.first)?;
+                let second = self.intern(&two.second)?;
                 self.put_pair(first, second)
             }
             Msg::Inl(a) => {
@@ -326,9 +326,9 @@ impl Messages {
                 let part = self.intern(a)?;
                 self.put_right(part)
             }
-            Msg::Enc(a, b) => {
-                let body = self.intern(a)?;
-                let key = self.intern(b)?;
+            Msg::Enc(sealed) => {
+                let body = self.intern(&sealed.body)?;
+                let key = self.intern(&sealed.key)?;
                 self.put_enc(body, key)
             }
             Msg::Hash(a) => {

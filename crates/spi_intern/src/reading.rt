@@ -27,9 +27,9 @@ pub fn message_of(alloc: Global, store: &Store, id: MsgId) -> Result<Msg, NoMemo
         MsgPart::Name(x) => Ok(Msg::Name(x)),
         MsgPart::Unit => Ok(Msg::Unit),
         MsgPart::Pair(a, b) => {
-            let first = boxed(alloc, message_of(alloc, store, a))?;
-            let second = boxed(alloc, message_of(alloc, store, b))?;
-            Ok(Msg::Pair(first, second))
+            let first = message_of(alloc, store, a)?;
+            let second = message_of(alloc, store, b)?;
+            Msg::paired(alloc, first, second)
         }
         MsgPart::Inl(a) => {
             let part = boxed(alloc, message_of(alloc, store, a))?;
@@ -40,9 +40,9 @@ pub fn message_of(alloc: Global, store: &Store, id: MsgId) -> Result<Msg, NoMemo
             Ok(Msg::Inr(part))
         }
         MsgPart::Enc(a, b) => {
-            let body = boxed(alloc, message_of(alloc, store, a))?;
-            let key = boxed(alloc, message_of(alloc, store, b))?;
-            Ok(Msg::Enc(body, key))
+            let body = message_of(alloc, store, a)?;
+            let key = message_of(alloc, store, b)?;
+            Msg::sealed(alloc, body, key)
         }
         MsgPart::Hash(a) => {
             let part = boxed(alloc, message_of(alloc, store, a))?;

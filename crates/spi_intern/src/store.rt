@@ -307,15 +307,15 @@ impl Store {
                 let id = self.put_unit()?;
                 Ok(id)
             }
-            Ty::Pair(a, b) => {
-                let first = self.intern_parts(alloc, a)?;
-                let second = self.intern_parts(alloc, b)?;
+            Ty::Pair(two) => {
+                let first = self.intern_parts(alloc, &two.first)?;
+                let second = self.intern_parts(alloc, &two.second)?;
                 let id = self.pair_over(first, second)?;
                 Ok(id)
             }
-            Ty::Sum(a, b) => {
-                let first = self.intern_parts(alloc, a)?;
-                let second = self.intern_parts(alloc, b)?;
+            Ty::Sum(two) => {
+                let first = self.intern_parts(alloc, &two.first)?;
+                let second = self.intern_parts(alloc, &two.second)?;
                 let id = self.sum_over(first, second)?;
                 Ok(id)
             }

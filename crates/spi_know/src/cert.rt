@@ -74,7 +74,7 @@ fn says_first(lines: &[CertLine], i: u32, m: &Msg) -> bool
         ↔ ((n : Message) × slice_get (map message_said lines.now) i ≡ Some (pair (message m.now) n)) }
 {
     match message_at(lines, i) {
-        Some(Msg::Pair(a, _)) => same_message(a, m),
+        Some(Msg::Pair(two)) => same_message(&two.first, m),
         _ => false,
     }
 }
@@ -84,7 +84,7 @@ fn says_second(lines: &[CertLine], i: u32, m: &Msg) -> bool
         ↔ ((n : Message) × slice_get (map message_said lines.now) i ≡ Some (pair n (message m.now))) }
 {
     match message_at(lines, i) {
-        Some(Msg::Pair(_, b)) => same_message(b, m),
+        Some(Msg::Pair(two)) => same_message(&two.second, m),
         _ => false,
     }
 }
@@ -114,7 +114,7 @@ fn opens(lines: &[CertLine], i: u32, j: u32, m: &Msg) -> bool
         × (slice_get (map message_said lines.now) j ≡ Some n)) }
 {
     match message_at(lines, i) {
-        Some(Msg::Enc(a, k)) => same_message(a, m) && says(lines, j, k),
+        Some(Msg::Enc(sealed)) => same_message(&sealed.body, m) && says(lines, j, &sealed.key),
         _ => false,
     }
 }
@@ -129,7 +129,7 @@ fn follows(sent: &[Msg], before: &[CertLine], line: &CertLine) -> bool
         By::Sent(i) => is_sent(sent, i, m),
         By::MakeUnit => matches!(m, Msg::Unit),
         By::MakePair(i, j) => match m {
-            Msg::Pair(a, b) => says(before, i, a) && says(before, j, b),
+            Msg::Pair(two) => says(before, i, &two.first) && says(before, j, &two.second),
             _ => false,
         },
         By::First(i) => says_first(before, i, m),
@@ -145,7 +145,7 @@ fn follows(sent: &[Msg], before: &[CertLine], line: &CertLine) -> bool
         By::TakeInl(i) => says_left(before, i, m),
         By::TakeInr(i) => says_right(before, i, m),
         By::MakeEnc(i, j) => match m {
-            Msg::Enc(a, k) => says(before, i, a) && says(before, j, k),
+            Msg::Enc(sealed) => says(before, i, &sealed.body) && says(before, j, &sealed.key),
             _ => false,
         },
         By::Open(i, j) => opens(before, i, j, m),

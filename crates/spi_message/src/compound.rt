@@ -19,18 +19,18 @@ pub fn boxed<T: Drop>(alloc: Global, value: Result<T, NoMemory>) -> Result<Box<T
 pub fn pair_type(alloc: Global, first: &Ty, second: &Ty) -> Result<Ty, NoMemory>
     ensures { IfOk result (λ r. type_of r ≡ pair_ty (type_of first.now) (type_of second.now)) }
 {
-    let a = boxed(alloc, first.copy(alloc))?;
-    let b = boxed(alloc, second.copy(alloc))?;
-    Ok(Ty::Pair(a, b))
+    let a = first.copy(alloc)?;
+    let b = second.copy(alloc)?;
+    Ty::paired(alloc, a, b)
 }
 
 /// The sum of these two. An error is want of memory.
 pub fn sum_type(alloc: Global, left: &Ty, right: &Ty) -> Result<Ty, NoMemory>
     ensures { IfOk result (λ r. type_of r ≡ sum_ty (type_of left.now) (type_of right.now)) }
 {
-    let a = boxed(alloc, left.copy(alloc))?;
-    let b = boxed(alloc, right.copy(alloc))?;
-    Ok(Ty::Sum(a, b))
+    let a = left.copy(alloc)?;
+    let b = right.copy(alloc)?;
+    Ty::summed(alloc, a, b)
 }
 
 /// The type of keys for this payload. An error is want of memory.

@@ -72,20 +72,20 @@ pub fn has_type(alloc: Global, m: &Msg, env: &[Ty], inner: &[Ty], t: &Ty) -> Res
         Msg::Bound(_) => Ok(false),
         Msg::Name(x) => Ok(has_name_type(*x, env, inner, t)),
         Msg::Unit => Ok(is_unit_type(t)),
-        Msg::Pair(a, b) => pair_has_type(alloc, a, b, env, inner, t),
+        Msg::Pair(two) => pair_has_type(alloc, &two.first, &two.second, env, inner, t),
         Msg::Inl(a) => match t {
             Ty::Un => has_type(alloc, a, env, inner, t),
-            Ty::Sum(left, _) => has_type(alloc, a, env, inner, left),
+            Ty::Sum(two) => has_type(alloc, a, env, inner, &two.first),
             _ => Ok(false),
         },
         Msg::Inr(a) => match t {
             Ty::Un => has_type(alloc, a, env, inner, t),
-            Ty::Sum(_, right) => has_type(alloc, a, env, inner, right),
+            Ty::Sum(two) => has_type(alloc, a, env, inner, &two.second),
             _ => Ok(false),
         },
-        Msg::Enc(a, b) => {
+        Msg::Enc(sealed) => {
             if is_un_type(t) {
-                is_sealed(alloc, a, b, env, inner)
+                is_sealed(alloc, &sealed.body, &sealed.key, env, inner)
             } else {
                 Ok(false)
             }
@@ -121,9 +121,9 @@ fn pair_has_type(
                 Ok(false)
             }
         }
-        Ty::Pair(first, second) => {
-            if has_type(alloc, a, env, inner, first)? {
-                let rest = opened(alloc, second, a)?;
+        Ty::Pair(two) => {
+            if has_type(alloc, a, env, inner, &two.first)? {
+                let rest = opened(alloc, &two.second, a)?;
                 has_type(alloc, b, env, inner, &rest)
             } else {
                 Ok(false)
@@ -165,16 +165,16 @@ pub fn is_label(alloc: Global, m: &Msg, env: &[Ty], inner: &[Ty]) -> Result<bool
         Msg::Bound(_) => Ok(false),
         Msg::Name(x) => Ok(is_below(*x, env, inner)),
         Msg::Unit => Ok(true),
-        Msg::Pair(a, b) => {
-            if is_label(alloc, a, env, inner)? {
-                is_label(alloc, b, env, inner)
+        Msg::Pair(two) => {
+            if is_label(alloc, &two.first, env, inner)? {
+                is_label(alloc, &two.second, env, inner)
             } else {
                 Ok(false)
             }
         }
         Msg::Inl(a) => is_label(alloc, a, env, inner),
         Msg::Inr(a) => is_label(alloc, a, env, inner),
-        Msg::Enc(a, b) => is_sealed(alloc, a, b, env, inner),
+        Msg::Enc(sealed) => is_sealed(alloc, &sealed.body, &sealed.key, env, inner),
         Msg::Hash(a) => is_label(alloc, a, env, inner),
     }
 }
@@ -215,23 +215,23 @@ pub fn is_good_type(
 {
     match t {
         Ty::Un => Ok(true),
-        Ty::Pair(first, second) => {
-            if !is_good_type(alloc, first, env, inner)? {
+        Ty::Pair(two) => {
+            if !is_good_type(alloc, &two.first, env, inner)? {
                 return Ok(false);
             }
             let count = inner.len();
             let name = Msg::Name((env.len() + count) as u32);
-            let under = opened(alloc, second, &name)?;
-            let outer = first.copy(alloc)?;
+            let under = opened(alloc, &two.second, &name)?;
+            let outer = two.first.copy(alloc)?;
             inner.push(outer)?;
             let answer = is_good_type(alloc, &under, env, inner)?;
             inner.truncate(count);
             Ok(answer)
         }
         Ty::Unit => Ok(true),
-        Ty::Sum(left, right) => {
-            if is_good_type(alloc, left, env, inner)? {
-                is_good_type(alloc, right, env, inner)
+        Ty::Sum(two) => {
+            if is_good_type(alloc, &two.first, env, inner)? {
+                is_good_type(alloc, &two.second, env, inner)
             } else {
                 Ok(false)
             }

@@ -39,8 +39,8 @@ fn is_un(t: &Ty) -> bool
     match t {
         Ty::Un => true,
         Ty::Unit => false,
-        Ty::Pair(_, _) => false,
-        Ty::Sum(_, _) => false,
+        Ty::Pair(_) => false,
+        Ty::Sum(_) => false,
         Ty::Key(_) => false,
         Ty::Nonce(_) => false,
     }

@@ -1,6 +1,6 @@
 //! Messages.
 
-ghost use Rattle.std.specs.Prelude.{◌≡◌, false, ◌+◌, ◌≤◌, [], ◌∷◌, map};
+ghost use Rattle.std.specs.Prelude.{◌≡◌, false, ◌+◌, ◌≤◌, [], ◌∷◌, map, IfOk};
 ghost use Rattle.spi_tree.specs.Trees.{Msg, name, tuple, msgs_of_list};
 ghost use Rattle.spi_tree.specs.Views.{msg_of};
 ghost use Rattle.spi_parse.specs.Places.{state_of, tuple_form, enc_form, inl_form, inr_form, hash_form, GivesPart, GivesBox};
@@ -8,6 +8,7 @@ ghost use Rattle.spi_parse.specs.Ends.{done, numeral_form};
 ghost use Rattle.spi_parse.specs.Table.{msg, msgs, msgs_item, delta_paren, word_at, over};
 ghost use Rattle.spi_parse.specs.Reading.{read, limited, behind_move, item_of};
 
+use crate::NoMemory;
 use crate::boxes::{TreePart, boxed};
 use crate::cursor::{
     Cursor, MESSAGE_LIMIT, Read, accept, fits, next_token, placed_word, span_from, syntax,
@@ -15,7 +16,7 @@ use crate::cursor::{
 use crate::reading::{take_mark, take_number};
 use spi_lex::{Kind, Mark, Reserved};
 use spi_text::{Span, Text};
-use spi_tree::SMsg;
+use spi_tree::{MsgParts, SMsg};
 use std::alloc::Global;
 
 /// A message, with the place behind it.
@@ -27,16 +28,25 @@ impl TreePart for SMsg {
     ghost view = { msg_of };
 }
 
-fn make_tuple(first: Box<SMsg>, second: Box<SMsg>, more: Vec<SMsg>, span: Span) -> SMsg
-    ensures { msg_of result
-        ≡ tuple span (msg_of first.value) (msg_of second.value) (msgs_of_list (map msg_of more.items)) }
+fn make_tuple(
+    alloc: Global,
+    first: SMsg,
+    second: SMsg,
+    more: Vec<SMsg>,
+    span: Span,
+) -> Result<SMsg, NoMemory>
+    ensures { IfOk result
+        (λ m. msg_of m ≡ tuple span (msg_of first) (msg_of second) (msgs_of_list (map msg_of more.items))) }
 {
-    SMsg::Tuple {
+    let parts = MsgParts {
         first,
         second,
         more,
+    };
+    Ok(SMsg::Tuple {
+        parts: Box::new(alloc, parts)?,
         span,
-    }
+    })
 }
 
 /// Where a message stands: whether it may have hashes, as in version 2, whether numbers stand in the place of names, and its
@@ -119,7 +129,7 @@ fn read_name<'t>(alloc: Global, word: &Text, span: Span, at: Cursor<'t>) -> Part
     ensures { GivesPart msg_of result (done (name span (word_at word.now span)) (state_of at.entry)) }
 {
     let name = placed_word(alloc, word, span)?;
-    Ok((SMsg::Name { name, span }, at))
+    Ok((SMsg::Name { name }, at))
 }
 
 fn read_numeral(first: Span, at: Cursor<'_>, node: Node) -> Part<'_>
@@ -222,27 +232,29 @@ fn read_tuple(alloc: Global, opening: Span, at: Cursor<'_>, node: Node) -> Part<
         nesting: node.nesting + 1,
         ..node
     };
-    let (first, at) = boxed_message(alloc, at, inner)?;
+    let (first, at) = message_of(alloc, at, inner)?;
     let at = take_mark(at, Mark::Comma)?;
-    let (second, at) = boxed_message(alloc, at, inner)?;
+    let (second, at) = message_of(alloc, at, inner)?;
     let (more, at) = more_messages(alloc, at, inner)?;
-    end_tuple(opening, first, second, more, at)
+    end_tuple(alloc, opening, first, second, more, at)
 }
 
 /// The tuple of these parts, which ends before this place.
 fn end_tuple(
+    alloc: Global,
     opening: Span,
-    first: Box<SMsg>,
-    second: Box<SMsg>,
+    first: SMsg,
+    second: SMsg,
     more: Vec<SMsg>,
     at: Cursor<'_>,
 ) -> Part<'_>
     ensures { GivesPart msg_of result
-        (done (tuple (over (opening ∷ []) at.entry.end) (msg_of first.value) (msg_of second.value)
+        (done (tuple (over (opening ∷ []) at.entry.end) (msg_of first) (msg_of second)
         (msgs_of_list (map msg_of more.items))) (state_of at.entry)) }
 {
     let span = span_from(opening, at);
-    Ok((make_tuple(first, second, more, span), at))
+    let whole = make_tuple(alloc, first, second, more, span)?;
+    Ok((whole, at))
 }
 
 #[cycle(messages)]

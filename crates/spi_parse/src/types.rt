@@ -19,7 +19,7 @@ use crate::messages::Node;
 use crate::reading::take_mark;
 use spi_lex::{Kind, Mark, Reserved};
 use spi_text::{Span, Text};
-use spi_tree::{Last, SField, STy, SWord};
+use spi_tree::{Last, SField, STy, SWord, TyParts};
 use std::alloc::Global;
 
 /// A type, with the place behind it.
@@ -42,29 +42,27 @@ pub enum FieldOrLast {
 }
 
 fn make_tuple_type(
+    alloc: Global,
     name: SWord,
-    first: Box<STy>,
+    first: STy,
     more: Vec<SField>,
-    last: Box<Last>,
+    last: Last,
     span: Span,
-) -> STy
-    ensures { ty_of result
-        ≡ tuple_ty span name (ty_of first.value) (fields_of_list (map field_of more.items))
-        (last_of last.value) }
+) -> Result<STy, NoMemory>
+    ensures { IfOk result
+        (λ t. ty_of t
+        ≡ tuple_ty span name (ty_of first) (fields_of_list (map field_of more.items)) (last_of last)) }
 {
-    STy::Tuple {
+    let parts = TyParts {
         name,
         first,
         more,
         last,
+    };
+    Ok(STy::Tuple {
+        parts: Box::new(alloc, parts)?,
         span,
-    }
-}
-
-fn boxed_last(alloc: Global, last: Last) -> Result<Box<Last>, NoMemory>
-    ensures { IfOk result (λ b. b.value ≡ last) }
-{
-    Ok(Box::new(alloc, last)?)
+    })
 }
 
 /// A type of a nesting.
@@ -113,7 +111,7 @@ fn read_abbreviation<'t>(alloc: Global, word: &Text, span: Span, at: Cursor<'t>)
     ensures { GivesPart ty_of result (done (abbr span (word_at word.now span)) (state_of at.entry)) }
 {
     let name = placed_word(alloc, word, span)?;
-    Ok((STy::Abbr { name, span }, at))
+    Ok((STy::Abbr { name }, at))
 }
 
 fn read_nonce(alloc: Global, first: Span, at: Cursor<'_>, later: bool, nesting: u32) -> Part<'_>
@@ -220,7 +218,7 @@ fn read_tuple_type<'t>(
     ensures { GivesPart ty_of result
         (tuple_ty_form later nesting word.now (first ∷ place ∷ []) (state_of at.entry)) }
 {
-    let (part, at) = boxed_type(alloc, at, later, nesting + 1)?;
+    let (part, at) = read_type(alloc, at, later, nesting + 1)?;
     let at = take_mark(at, Mark::Comma)?;
     let (more, last, at) = read_fields(alloc, at, later, nesting + 1)?;
     end_tuple_type(alloc, first, word, place, part, more, last, at)
@@ -232,18 +230,19 @@ fn end_tuple_type<'t>(
     first: Span,
     word: &Text,
     place: Span,
-    part: Box<STy>,
+    part: STy,
     more: Vec<SField>,
-    last: Box<Last>,
+    last: Last,
     at: Cursor<'t>,
 ) -> Part<'t>
     ensures { GivesPart ty_of result
-        (done (tuple_ty (over (first ∷ []) at.entry.end) (word_at word.now place) (ty_of part.value)
-        (fields_of_list (map field_of more.items)) (last_of last.value)) (state_of at.entry)) }
+        (done (tuple_ty (over (first ∷ []) at.entry.end) (word_at word.now place) (ty_of part)
+        (fields_of_list (map field_of more.items)) (last_of last)) (state_of at.entry)) }
 {
     let name = placed_word(alloc, word, place)?;
     let span = span_from(first, at);
-    Ok((make_tuple_type(name, part, more, last, span), at))
+    let whole = make_tuple_type(alloc, name, part, more, last, span)?;
+    Ok((whole, at))
 }
 
 #[cycle(types)]
@@ -278,7 +277,7 @@ fn end_sum_of_word<'t>(
 {
     let at = take_mark(at, Mark::ParenClose)?;
     let name = placed_word(alloc, word, place)?;
-    let left = Box::new(alloc, STy::Abbr { name, span: place })?;
+    let left = Box::new(alloc, STy::Abbr { name })?;
     let span = span_from(first, at);
     Ok((STy::Sum { left, right, span }, at))
 }
@@ -289,9 +288,9 @@ fn read_fields(
     start: Cursor<'_>,
     later: bool,
     nesting: u32,
-) -> Result<(Vec<SField>, Box<Last>, Cursor<'_>), Stop>
+) -> Result<(Vec<SField>, Last, Cursor<'_>), Stop>
     requires { nesting ≤ 1001 }
-    ensures { Gives (λ x. ((map field_of x.0.items, last_of x.1.value), state_of x.2)) result
+    ensures { Gives (λ x. ((map field_of x.0.items, last_of x.1), state_of x.2)) result
         (read limited (fields later nesting) (state_of start.entry)) }
 {
     let mut more = Vec::new(alloc);
@@ -300,7 +299,7 @@ fn read_fields(
         let (item, after) = next_field(alloc, at, later, nesting)?;
         match item {
             FieldOrLast::Field(part) => more.push(part)?,
-            FieldOrLast::Last(last) => return Ok((more, boxed_last(alloc, last)?, after)),
+            FieldOrLast::Last(last) => return Ok((more, last, after)),
         }
         at = after;
     }
@@ -317,8 +316,7 @@ fn bare_last(ty: STy, at: Cursor<'_>) -> Item<'_>
 fn abbreviated_last(name: SWord, at: Cursor<'_>) -> Item<'_>
     ensures { GivesPart field_item result (done (last (bare (abbr name.span name))) (state_of at.entry)) }
 {
-    let span = name.span;
-    let last = Last::Bare(STy::Abbr { name, span });
+    let last = Last::Bare(STy::Abbr { name });
     Ok((FieldOrLast::Last(last), at))
 }
 

@@ -121,9 +121,9 @@ fn is_message(store: &Store, id: MsgId, m: &Msg) -> bool
         Msg::Bound(i) => part == MsgPart::Bound(*i),
         Msg::Name(x) => part == MsgPart::Name(*x),
         Msg::Unit => part == MsgPart::Unit,
-        Msg::Pair(a, b) => match part {
-            MsgPart::Pair(first, second) => is_message(store, first, a)
-                && is_message(store, second, b),
+        Msg::Pair(two) => match part {
+            MsgPart::Pair(first, second) => is_message(store, first, &two.first)
+                && is_message(store, second, &two.second),
             _ => false,
         },
         Msg::Inl(a) => match part {
@@ -134,8 +134,9 @@ fn is_message(store: &Store, id: MsgId, m: &Msg) -> bool
             MsgPart::Inr(inner) => is_message(store, inner, a),
             _ => false,
         },
-        Msg::Enc(a, b) => match part {
-            MsgPart::Enc(body, key) => is_message(store, body, a) && is_message(store, key, b),
+        Msg::Enc(sealed) => match part {
+            MsgPart::Enc(body, key) => is_message(store, body, &sealed.body)
+                && is_message(store, key, &sealed.key),
             _ => false,
         },
         Msg::Hash(a) => match part {

@@ -79,9 +79,9 @@ pub fn instance(store: &mut Store, links: &[Link], scope: Scope, m: &Msg) -> Res
         Msg::Bound(i) => store.message_over(MsgPart::Bound(*i)),
         Msg::Name(x) => named(store, links, scope, *x),
         Msg::Unit => store.message_over(MsgPart::Unit),
-        Msg::Pair(a, b) => {
-            let first = instance(store, links, scope, a)?;
-            let second = instance(store, links, scope, b)?;
+        Msg::Pair(two) => {
+            let first = instance(store, links, scope, &two.first)?;
+            let second = instance(store, links, scope, &two.second)?;
             store.message_over(MsgPart::Pair(first, second))
         }
         Msg::Inl(a) => {
@@ -92,9 +92,9 @@ pub fn instance(store: &mut Store, links: &[Link], scope: Scope, m: &Msg) -> Res
             let part = instance(store, links, scope, a)?;
             store.message_over(MsgPart::Inr(part))
         }
-        Msg::Enc(a, b) => {
-            let body = instance(store, links, scope, a)?;
-            let key = instance(store, links, scope, b)?;
+        Msg::Enc(sealed) => {
+            let body = instance(store, links, scope, &sealed.body)?;
+            let key = instance(store, links, scope, &sealed.key)?;
             store.message_over(MsgPart::Enc(body, key))
         }
         Msg::Hash(a) => {

@@ -42,15 +42,10 @@ fn read_numbered(alloc: Global, spent: u64, m: &SMsg) -> Result<(Msg, u64), NoMe
     match m {
         SMsg::Name { .. } => Ok((Msg::Unit, spent.saturating_add(1))),
         SMsg::Unit { .. } => Ok((Msg::Unit, spent.saturating_add(1))),
-        SMsg::Tuple {
-            first,
-            second,
-            more,
-            ..
-        } => {
-            let (first, total) = read_numbered(alloc, spent, first)?;
-            let (second, total) = read_numbered(alloc, total.saturating_add(1), second)?;
-            let (more, total) = read_all_numbered(alloc, total, more)?;
+        SMsg::Tuple { parts, .. } => {
+            let (first, total) = read_numbered(alloc, spent, &parts.first)?;
+            let (second, total) = read_numbered(alloc, total.saturating_add(1), &parts.second)?;
+            let (more, total) = read_all_numbered(alloc, total, &parts.more)?;
             let whole = nest(alloc, total, first, second, more)?;
             Ok((whole, total))
         }
@@ -65,10 +60,10 @@ fn read_numbered(alloc: Global, spent: u64, m: &SMsg) -> Result<(Msg, u64), NoMe
             Ok((Msg::Inr(part), total))
         }
         SMsg::Enc { body, key, .. } => {
-            let body = read_numbered(alloc, spent.saturating_add(1), body);
-            let (body, total) = boxed(alloc, body)?;
-            let (key, total) = boxed(alloc, read_numbered(alloc, total, key))?;
-            Ok((Msg::Enc(body, key), total))
+            let (body, total) = read_numbered(alloc, spent.saturating_add(1), body)?;
+            let (key, total) = read_numbered(alloc, total, key)?;
+            let whole = Msg::sealed(alloc, body, key)?;
+            Ok((whole, total))
         }
         SMsg::Hash { part, .. } => {
             let part = read_numbered(alloc, spent.saturating_add(1), part);

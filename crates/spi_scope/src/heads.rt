@@ -60,7 +60,7 @@ fn type_place(t: &STy) -> Span
         STy::Sum { span, .. } => *span,
         STy::Key { span, .. } => *span,
         STy::Nonce { span, .. } => *span,
-        STy::Abbr { span, .. } => *span,
+        STy::Abbr { name } => name.span,
     }
 }
 

@@ -69,7 +69,7 @@ pub fn nest(
         (λ m. total ≤ 1000 → message m ≡ nested (message first) (message second ∷ map message more.items)) }
 {
     let rest = nest_small(alloc, total, second, more)?;
-    paired(alloc, first, rest)
+    Msg::paired(alloc, first, rest)
 }
 
 /// A message and what is behind it, nested to the right where there are few enough nodes.
@@ -82,14 +82,6 @@ fn nest_small(alloc: Global, total: u64, first: Msg, more: Vec<Msg>) -> Result<M
     nest_rest(alloc, first, more)
 }
 
-/// The pair of two messages.
-#[inline(always)]
-fn paired(alloc: Global, first: Msg, second: Msg) -> Result<Msg, AllocError>
-    ensures { IfOk result (λ m. message m ≡ pair (message first) (message second)) }
-{
-    Ok(Msg::Pair(Box::new(alloc, first)?, Box::new(alloc, second)?))
-}
-
 fn nest_rest(alloc: Global, first: Msg, mut more: Vec<Msg>) -> Result<Msg, AllocError>
     ensures { IfOk result (λ m. message m ≡ nested (message first) (map message more.items)) }
 {
@@ -97,9 +89,9 @@ fn nest_rest(alloc: Global, first: Msg, mut more: Vec<Msg>) -> Result<Msg, Alloc
         return Ok(first);
     };
     while let Some(part) = more.pop() {
-        last = paired(alloc, part, last)?;
+        last = Msg::paired(alloc, part, last)?;
     }
-    paired(alloc, first, last)
+    Msg::paired(alloc, first, last)
 }
 
 /// The term in a box, with its nodes.
@@ -129,7 +121,7 @@ pub fn read_message(
         (message_in base scope.now.held.names (msg_of m.now)) }
 {
     match m {
-        SMsg::Name { name, .. } => read_name(alloc, scope, base, spent, name),
+        SMsg::Name { name } => read_name(alloc, scope, base, spent, name),
         SMsg::Unit { .. } => Ok((Msg::Unit, spent.saturating_add(1))),
         SMsg::Tuple { .. } => read_tuple(alloc, scope, base, spent, m),
         SMsg::Inl { part, .. } => read_inl(alloc, scope, base, spent, part),
@@ -155,16 +147,12 @@ fn read_tuple(
         (message_in base scope.now.held.names (msg_of m.now)) }
 {
     match m {
-        SMsg::Tuple {
-            first,
-            second,
-            more,
-            ..
-        } => {
-            let (first, total) = read_message(alloc, scope, base, spent, first)?;
+        SMsg::Tuple { parts, .. } => {
+            let (first, total) = read_message(alloc, scope, base, spent, &parts.first)?;
+            let second = &parts.second;
             let (next, total) = read_message(alloc, scope, base, total.saturating_add(1), second)?;
-            let (rest, total) = read_more(alloc, scope, base, total, more, next)?;
-            let whole = paired(alloc, first, rest)?;
+            let (rest, total) = read_more(alloc, scope, base, total, &parts.more, next)?;
+            let whole = Msg::paired(alloc, first, rest)?;
             Ok((whole, total))
         }
         _ => unreachable!(),
@@ -238,9 +226,10 @@ fn read_enc(
 {
     match m {
         SMsg::Enc { body, key, .. } => {
-            let (body, total) = read_boxed(alloc, scope, base, spent.saturating_add(1), body)?;
-            let (key, total) = read_boxed(alloc, scope, base, total, key)?;
-            Ok((Msg::Enc(body, key), total))
+            let (body, total) = read_message(alloc, scope, base, spent.saturating_add(1), body)?;
+            let (key, total) = read_message(alloc, scope, base, total, key)?;
+            let whole = Msg::sealed(alloc, body, key)?;
+            Ok((whole, total))
         }
         _ => unreachable!(),
     }
@@ -305,7 +294,7 @@ fn read_last(
         (messages_in base scope.now.held.names (more_msgs (msg_of last.now) no_msgs))) }
 {
     let (last, total) = read_message(alloc, scope, base, spent.saturating_add(1), last)?;
-    let whole = paired(alloc, next, last)?;
+    let whole = Msg::paired(alloc, next, last)?;
     Ok((whole, total))
 }
 

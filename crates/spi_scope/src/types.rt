@@ -27,7 +27,7 @@ pub fn message_place(m: &SMsg) -> Span
     ensures { result ≡ msg_span (msg_of m.now) }
 {
     match m {
-        SMsg::Name { span, .. } => *span,
+        SMsg::Name { name } => name.span,
         SMsg::Unit { span } => *span,
         SMsg::Tuple { span, .. } => *span,
         SMsg::Inl { span, .. } => *span,
@@ -168,22 +168,14 @@ fn nest_types(
         return Ok(Ty::Un);
     }
     let rest = nest_rest_types(alloc, more, last)?;
-    paired(alloc, first, rest)
-}
-
-/// The type of pairs of these two.
-#[inline(always)]
-fn paired(alloc: Global, first: Ty, second: Ty) -> Result<Ty, AllocError>
-    ensures { IfOk result (λ t. ty t ≡ pair_ty (ty first) (ty second)) }
-{
-    Ok(Ty::Pair(Box::new(alloc, first)?, Box::new(alloc, second)?))
+    Ty::paired(alloc, first, rest)
 }
 
 fn nest_rest_types(alloc: Global, mut more: Vec<Ty>, mut last: Ty) -> Result<Ty, AllocError>
     ensures { IfOk result (λ t. ty t ≡ nested_types (map ty more.items) (ty last)) }
 {
     while let Some(part) = more.pop() {
-        last = paired(alloc, part, last)?;
+        last = Ty::paired(alloc, part, last)?;
     }
     Ok(last)
 }
@@ -211,7 +203,7 @@ pub fn read_type<'t>(
         STy::Sum { .. } => read_sum(alloc, scope, base, spent, t),
         STy::Key { part, .. } => read_key(alloc, scope, base, spent, part),
         STy::Nonce { effect, .. } => read_nonce(alloc, scope, base, spent, effect),
-        STy::Abbr { name, .. } => read_abbreviation(alloc, scope, spent, name),
+        STy::Abbr { name } => read_abbreviation(alloc, scope, spent, name),
     }
 }
 
@@ -232,20 +224,20 @@ fn read_tuple<'t>(
     ensures scope { OnOk result (scope.new ≡ scope.old) }
 {
     match t {
-        STy::Tuple {
-            name,
-            first,
-            more,
-            last,
-            ..
-        } => {
+        STy::Tuple { parts, .. } => {
             let len = scope.held.len();
-            let (head, total) = read_type(alloc, scope, base, spent.saturating_add(1), first)?;
-            scope.held.bind(name.word.as_str())?;
-            let (parts, total) = read_fields(alloc, scope, base, total, more)?;
-            let (tail, total) = read_last(alloc, scope, base, total, last)?;
+            let (head, total) = read_type(
+                alloc,
+                scope,
+                base,
+                spent.saturating_add(1),
+                &parts.first,
+            )?;
+            scope.held.bind(parts.name.word.as_str())?;
+            let (fields, total) = read_fields(alloc, scope, base, total, &parts.more)?;
+            let (tail, total) = read_last(alloc, scope, base, total, &parts.last)?;
             scope.held.cut(len);
-            let ty = nest_types(alloc, total, head, parts, tail)?;
+            let ty = nest_types(alloc, total, head, fields, tail)?;
             Ok((ty, total))
         }
         _ => unreachable!(),
@@ -270,10 +262,10 @@ fn read_sum<'t>(
 {
     match t {
         STy::Sum { left, right, .. } => {
-            let left = read_type(alloc, scope, base, spent.saturating_add(1), left);
-            let (left, total) = boxed(alloc, left)?;
-            let (right, total) = boxed(alloc, read_type(alloc, scope, base, total, right))?;
-            Ok((Ty::Sum(left, right), total))
+            let (left, total) = read_type(alloc, scope, base, spent.saturating_add(1), left)?;
+            let (right, total) = read_type(alloc, scope, base, total, right)?;
+            let whole = Ty::summed(alloc, left, right)?;
+            Ok((whole, total))
         }
         _ => unreachable!(),
     }

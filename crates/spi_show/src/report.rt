@@ -43,20 +43,20 @@ fn put_message(alloc: Global, out: &mut Vec<u8>, names: &[Text], m: &Msg) -> Res
         Msg::Bound(_) => Ok(()),
         Msg::Name(x) => put_name(alloc, out, names, *x),
         Msg::Unit => out.extend_from_slice(b"()"),
-        Msg::Pair(first, second) => {
+        Msg::Pair(two) => {
             out.extend_from_slice(b"(")?;
-            put_message(alloc, out, names, first)?;
+            put_message(alloc, out, names, &two.first)?;
             out.extend_from_slice(b", ")?;
-            put_message(alloc, out, names, second)?;
+            put_message(alloc, out, names, &two.second)?;
             out.extend_from_slice(b")")
         }
         Msg::Inl(part) => put_reported(alloc, out, names, b"inl ", part),
         Msg::Inr(part) => put_reported(alloc, out, names, b"inr ", part),
-        Msg::Enc(body, key) => {
+        Msg::Enc(sealed) => {
             out.extend_from_slice(b"{")?;
-            put_message(alloc, out, names, body)?;
+            put_message(alloc, out, names, &sealed.body)?;
             out.extend_from_slice(b"}")?;
-            put_message(alloc, out, names, key)
+            put_message(alloc, out, names, &sealed.key)
         }
         Msg::Hash(part) => {
             out.extend_from_slice(b"hash(")?;

@@ -61,14 +61,14 @@ pub fn put_message(spell: &Spell, n: u32, m: &Msg, out: &mut Vec<u8>) -> Result<
         Msg::Bound(i) => put_bound(spell, n, *i, out),
         Msg::Name(x) => put_name(spell, *x, out),
         Msg::Unit => out.extend_from_slice(b"()"),
-        Msg::Pair(first, second) => {
+        Msg::Pair(two) => {
             out.extend_from_slice(b"(")?;
-            put_tuple(spell, n, first, second, out)?;
+            put_tuple(spell, n, &two.first, &two.second, out)?;
             out.extend_from_slice(b")")
         }
         Msg::Inl(part) => put_worded(spell, n, b"inl ", part, b"", out),
         Msg::Inr(part) => put_worded(spell, n, b"inr ", part, b"", out),
-        Msg::Enc(body, key) => put_enc(spell, n, body, key, out),
+        Msg::Enc(sealed) => put_enc(spell, n, &sealed.body, &sealed.key, out),
         Msg::Hash(part) => put_worded(spell, n, b"hash(", part, b")", out),
     }
 }
@@ -90,7 +90,7 @@ fn put_tuple(
     put_message(spell, n, first, out)?;
     out.extend_from_slice(b", ")?;
     match rest {
-        Msg::Pair(second, more) => put_tuple(spell, n, second, more, out),
+        Msg::Pair(two) => put_tuple(spell, n, &two.first, &two.second, out),
         _ => put_message(spell, n, rest, out),
     }
 }
@@ -193,14 +193,14 @@ pub fn put_type(spell: &Spell, n: u32, t: &Ty, out: &mut Vec<u8>) -> Result<(), 
     match t {
         Ty::Un => out.extend_from_slice(b"Un"),
         Ty::Unit => out.extend_from_slice(b"()"),
-        Ty::Pair(first, second) => {
+        Ty::Pair(two) => {
             out.extend_from_slice(b"(")?;
-            put_typed(spell, n, first, out)?;
+            put_typed(spell, n, &two.first, out)?;
             out.extend_from_slice(b", ")?;
-            put_tuple_type(spell, n + 1, second, out)?;
+            put_tuple_type(spell, n + 1, &two.second, out)?;
             out.extend_from_slice(b")")
         }
-        Ty::Sum(left, right) => put_sum(spell, n, left, right, out),
+        Ty::Sum(two) => put_sum(spell, n, &two.first, &two.second, out),
         Ty::Key(payload) => put_key(spell, n, payload, out),
         Ty::Nonce(e) => put_nonce(spell, n, e, out),
     }
@@ -214,10 +214,10 @@ fn put_tuple_type(spell: &Spell, n: u32, t: &Ty, out: &mut Vec<u8>) -> Result<()
         (out.new.items ≡ out.old.items ++ tuple_type_text (spelling spell.now) n (type_of t.now)) }
 {
     match t {
-        Ty::Pair(first, second) => {
-            put_typed(spell, n, first, out)?;
+        Ty::Pair(two) => {
+            put_typed(spell, n, &two.first, out)?;
             out.extend_from_slice(b", ")?;
-            put_tuple_type(spell, n + 1, second, out)
+            put_tuple_type(spell, n + 1, &two.second, out)
         }
         _ => put_type(spell, n, t, out),
     }

@@ -14,10 +14,10 @@ fn rank_of(m: &Msg) -> u8
         Msg::Bound(_) => 0,
         Msg::Name(_) => 1,
         Msg::Unit => 2,
-        Msg::Pair(_, _) => 3,
+        Msg::Pair(_) => 3,
         Msg::Inl(_) => 4,
         Msg::Inr(_) => 5,
-        Msg::Enc(_, _) => 6,
+        Msg::Enc(_) => 6,
         Msg::Hash(_) => 7,
     }
 }
@@ -29,14 +29,14 @@ fn compare_messages(a: &Msg, b: &Msg) -> Ordering
         (Msg::Bound(i), Msg::Bound(j)) => i.cmp(j),
         (Msg::Name(x), Msg::Name(y)) => x.cmp(y),
         (Msg::Unit, Msg::Unit) => Ordering::Equal,
-        (Msg::Pair(a, b), Msg::Pair(c, d)) => match compare_messages(a, c) {
-            Ordering::Equal => compare_messages(b, d),
+        (Msg::Pair(p), Msg::Pair(q)) => match compare_messages(&p.first, &q.first) {
+            Ordering::Equal => compare_messages(&p.second, &q.second),
             other => other,
         },
         (Msg::Inl(a), Msg::Inl(b)) => compare_messages(a, b),
         (Msg::Inr(a), Msg::Inr(b)) => compare_messages(a, b),
-        (Msg::Enc(a, b), Msg::Enc(c, d)) => match compare_messages(a, c) {
-            Ordering::Equal => compare_messages(b, d),
+        (Msg::Enc(p), Msg::Enc(q)) => match compare_messages(&p.body, &q.body) {
+            Ordering::Equal => compare_messages(&p.key, &q.key),
             other => other,
         },
         (Msg::Hash(a), Msg::Hash(b)) => compare_messages(a, b),

@@ -14,10 +14,10 @@ fn is_name_in(x: u32, m: &Msg) -> bool
         Msg::Bound(_) => false,
         Msg::Name(y) => x == *y,
         Msg::Unit => false,
-        Msg::Pair(a, b) => is_name_in(x, a) || is_name_in(x, b),
+        Msg::Pair(two) => is_name_in(x, &two.first) || is_name_in(x, &two.second),
         Msg::Inl(a) => is_name_in(x, a),
         Msg::Inr(a) => is_name_in(x, a),
-        Msg::Enc(a, b) => is_name_in(x, a) || is_name_in(x, b),
+        Msg::Enc(sealed) => is_name_in(x, &sealed.body) || is_name_in(x, &sealed.key),
         Msg::Hash(a) => is_name_in(x, a),
     }
 }
@@ -50,8 +50,8 @@ fn is_name_in_type(x: u32, t: &Ty) -> bool
     match t {
         Ty::Un => false,
         Ty::Unit => false,
-        Ty::Pair(a, b) => is_name_in_type(x, a) || is_name_in_type(x, b),
-        Ty::Sum(a, b) => is_name_in_type(x, a) || is_name_in_type(x, b),
+        Ty::Pair(two) => is_name_in_type(x, &two.first) || is_name_in_type(x, &two.second),
+        Ty::Sum(two) => is_name_in_type(x, &two.first) || is_name_in_type(x, &two.second),
         Ty::Key(a) => is_name_in_type(x, a),
         Ty::Nonce(e) => is_name_in_effect(x, &e.atoms),
     }

@@ -38,16 +38,18 @@ fn put_message(alloc: Global, value: &Msg, depth: u64, m: &Msg) -> Result<Msg, N
         }
         Msg::Name(x) => Ok(Msg::Name(*x)),
         Msg::Unit => Ok(Msg::Unit),
-        Msg::Pair(a, b) => Ok(Msg::Pair(
-            boxed(alloc, put_message(alloc, value, depth, a))?,
-            boxed(alloc, put_message(alloc, value, depth, b))?,
-        )),
+        Msg::Pair(two) => {
+            let first = put_message(alloc, value, depth, &two.first)?;
+            let second = put_message(alloc, value, depth, &two.second)?;
+            Msg::paired(alloc, first, second)
+        }
         Msg::Inl(a) => Ok(Msg::Inl(boxed(alloc, put_message(alloc, value, depth, a))?)),
         Msg::Inr(a) => Ok(Msg::Inr(boxed(alloc, put_message(alloc, value, depth, a))?)),
-        Msg::Enc(a, b) => Ok(Msg::Enc(
-            boxed(alloc, put_message(alloc, value, depth, a))?,
-            boxed(alloc, put_message(alloc, value, depth, b))?,
-        )),
+        Msg::Enc(sealed) => {
+            let body = put_message(alloc, value, depth, &sealed.body)?;
+            let key = put_message(alloc, value, depth, &sealed.key)?;
+            Msg::sealed(alloc, body, key)
+        }
         Msg::Hash(a) => Ok(Msg::Hash(boxed(alloc, put_message(alloc, value, depth, a))?)),
     }
 }
@@ -85,15 +87,15 @@ fn put_ty(alloc: Global, value: &Msg, depth: u64, t: &Ty) -> Result<Ty, NoMemory
     match t {
         Ty::Un => Ok(Ty::Un),
         Ty::Unit => Ok(Ty::Unit),
-        Ty::Pair(a, b) => {
-            let first = boxed(alloc, put_ty(alloc, value, depth, a))?;
-            let second = boxed(alloc, put_ty(alloc, value, deeper(depth), b))?;
-            Ok(Ty::Pair(first, second))
+        Ty::Pair(two) => {
+            let first = put_ty(alloc, value, depth, &two.first)?;
+            let second = put_ty(alloc, value, deeper(depth), &two.second)?;
+            Ty::paired(alloc, first, second)
         }
-        Ty::Sum(a, b) => {
-            let first = boxed(alloc, put_ty(alloc, value, depth, a))?;
-            let second = boxed(alloc, put_ty(alloc, value, depth, b))?;
-            Ok(Ty::Sum(first, second))
+        Ty::Sum(two) => {
+            let first = put_ty(alloc, value, depth, &two.first)?;
+            let second = put_ty(alloc, value, depth, &two.second)?;
+            Ty::summed(alloc, first, second)
         }
         Ty::Key(a) => Ok(Ty::Key(boxed(alloc, put_ty(alloc, value, depth, a))?)),
         Ty::Nonce(e) => Ok(Ty::Nonce(put_effect(alloc, value, depth, e)?)),
@@ -133,16 +135,18 @@ pub fn put_in(alloc: Global, m: &Msg, from: u32, values: &[Msg]) -> Result<Msg, 
         Msg::Bound(i) => Ok(Msg::Bound(*i)),
         Msg::Name(x) => value_of_name(alloc, *x, from, values),
         Msg::Unit => Ok(Msg::Unit),
-        Msg::Pair(a, b) => Ok(Msg::Pair(
-            boxed(alloc, put_in(alloc, a, from, values))?,
-            boxed(alloc, put_in(alloc, b, from, values))?,
-        )),
+        Msg::Pair(two) => {
+            let first = put_in(alloc, &two.first, from, values)?;
+            let second = put_in(alloc, &two.second, from, values)?;
+            Msg::paired(alloc, first, second)
+        }
         Msg::Inl(a) => Ok(Msg::Inl(boxed(alloc, put_in(alloc, a, from, values))?)),
         Msg::Inr(a) => Ok(Msg::Inr(boxed(alloc, put_in(alloc, a, from, values))?)),
-        Msg::Enc(a, b) => Ok(Msg::Enc(
-            boxed(alloc, put_in(alloc, a, from, values))?,
-            boxed(alloc, put_in(alloc, b, from, values))?,
-        )),
+        Msg::Enc(sealed) => {
+            let body = put_in(alloc, &sealed.body, from, values)?;
+            let key = put_in(alloc, &sealed.key, from, values)?;
+            Msg::sealed(alloc, body, key)
+        }
         Msg::Hash(a) => Ok(Msg::Hash(boxed(alloc, put_in(alloc, a, from, values))?)),
     }
 }

@@ -17,10 +17,12 @@ pub fn same_message(a: &Msg, b: &Msg) -> bool
         (Msg::Bound(i), Msg::Bound(j)) => *i == *j,
         (Msg::Name(x), Msg::Name(y)) => *x == *y,
         (Msg::Unit, Msg::Unit) => true,
-        (Msg::Pair(a, b), Msg::Pair(c, d)) => same_message(a, c) && same_message(b, d),
+        (Msg::Pair(p), Msg::Pair(q)) => same_message(&p.first, &q.first)
+            && same_message(&p.second, &q.second),
         (Msg::Inl(a), Msg::Inl(b)) => same_message(a, b),
         (Msg::Inr(a), Msg::Inr(b)) => same_message(a, b),
-        (Msg::Enc(a, b), Msg::Enc(c, d)) => same_message(a, c) && same_message(b, d),
+        (Msg::Enc(p), Msg::Enc(q)) => same_message(&p.body, &q.body)
+            && same_message(&p.key, &q.key),
         (Msg::Hash(a), Msg::Hash(b)) => same_message(a, b),
         _ => false,
     }
@@ -52,8 +54,10 @@ pub fn is_same_type(t: &Ty, u: &Ty) -> bool
     match (t, u) {
         (Ty::Un, Ty::Un) => true,
         (Ty::Unit, Ty::Unit) => true,
-        (Ty::Pair(a, b), Ty::Pair(c, d)) => is_same_type(a, c) && is_same_type(b, d),
-        (Ty::Sum(a, b), Ty::Sum(c, d)) => is_same_type(a, c) && is_same_type(b, d),
+        (Ty::Pair(p), Ty::Pair(q)) => is_same_type(&p.first, &q.first)
+            && is_same_type(&p.second, &q.second),
+        (Ty::Sum(p), Ty::Sum(q)) => is_same_type(&p.first, &q.first)
+            && is_same_type(&p.second, &q.second),
         (Ty::Key(a), Ty::Key(b)) => is_same_type(a, b),
         (Ty::Nonce(e), Ty::Nonce(f)) => {
             is_effect_within(&e.atoms, &f.atoms) && is_effect_within(&f.atoms, &e.atoms)

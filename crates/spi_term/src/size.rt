@@ -23,10 +23,10 @@ pub fn nodes(m: &Msg) -> u64
         Msg::Bound(_) => 1,
         Msg::Name(_) => 1,
         Msg::Unit => 1,
-        Msg::Pair(a, b) => one_more(nodes(a).saturating_add(nodes(b))),
+        Msg::Pair(two) => one_more(nodes(&two.first).saturating_add(nodes(&two.second))),
         Msg::Inl(a) => one_more(nodes(a)),
         Msg::Inr(a) => one_more(nodes(a)),
-        Msg::Enc(a, b) => one_more(nodes(a).saturating_add(nodes(b))),
+        Msg::Enc(sealed) => one_more(nodes(&sealed.body).saturating_add(nodes(&sealed.key))),
         Msg::Hash(a) => one_more(nodes(a)),
     }
 }
@@ -60,8 +60,8 @@ pub fn type_nodes(t: &Ty) -> u64
     match t {
         Ty::Un => 1,
         Ty::Unit => 1,
-        Ty::Pair(a, b) => one_more(type_nodes(a).saturating_add(type_nodes(b))),
-        Ty::Sum(a, b) => one_more(type_nodes(a).saturating_add(type_nodes(b))),
+        Ty::Pair(two) => one_more(type_nodes(&two.first).saturating_add(type_nodes(&two.second))),
+        Ty::Sum(two) => one_more(type_nodes(&two.first).saturating_add(type_nodes(&two.second))),
         Ty::Key(a) => one_more(type_nodes(a)),
         Ty::Nonce(e) => one_more(effect_count(e)),
     }

@@ -22,9 +22,9 @@ use Rattle.spi_tree.specs.Trees as t
 
 abbrev mutual
   pub msg_of : SMsg → t.Msg
-  msg_of (smsg.Name w s) = t.name s w
+  msg_of (smsg.Name w) = t.name w.span w
   msg_of (smsg.Unit s) = t.unit s
-  msg_of (smsg.Tuple' p a q b shape more s) = t.tuple s (msg_of a) (msg_of b) (msgs_of_row more)
+  msg_of (smsg.Tuple' p a b shape more s) = t.tuple s (msg_of a) (msg_of b) (msgs_of_row more)
   msg_of (smsg.Inl' p a s) = t.inl s (msg_of a)
   msg_of (smsg.Inr' p a s) = t.inr s (msg_of a)
   msg_of (smsg.Enc' p a q b s) = t.enc s (msg_of a) (msg_of b)
@@ -44,11 +44,11 @@ abbrev mutual
   pub ty_of : STy → t.Ty
   ty_of (sty.Un s) = t.un s
   ty_of (sty.Unit s) = t.unit_ty s
-  ty_of (sty.Tuple' w p a shape more q last s) = t.tuple_ty s w (ty_of a) (fields_of_row more) (last_of last)
+  ty_of (sty.Tuple' p w a shape more last s) = t.tuple_ty s w (ty_of a) (fields_of_row more) (last_of last)
   ty_of (sty.Sum' p a q b s) = t.sum s (ty_of a) (ty_of b)
   ty_of (sty.Key' p a s) = t.key s (ty_of a)
   ty_of (sty.Nonce es s) = t.nonce s (map atom_of es.items)
-  ty_of (sty.Abbr w s) = t.abbr s w
+  ty_of (sty.Abbr w) = t.abbr w.span w
 
   pub fields_of_row : {n : _} → Row_of-SField n → t.Fields
   fields_of_row end_of-SField = t.no_fields

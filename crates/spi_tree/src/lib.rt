@@ -9,7 +9,9 @@ mod tree;
 
 use std::alloc::AllocError;
 pub use tokens::tokens_of;
-pub use tree::{Decl, Last, SAtom, SDeriv, SField, SMsg, SProc, SStep, STy, SWord, Tree};
+pub use tree::{
+    Decl, Last, MsgParts, SAtom, SDeriv, SField, SMsg, SProc, SStep, STy, SWord, Tree, TyParts,
+};
 
 /// Memory ran out.
 pub type NoMemory = AllocError;

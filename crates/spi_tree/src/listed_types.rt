@@ -15,19 +15,14 @@ pub fn put_message(alloc: Global, out: &mut Vec<Kind>, message: &SMsg) -> Result
     ensures { OnOk result (out.new.items ≡ out.old.items ++ msg_list (msg_of message.now)) }
 {
     match message {
-        SMsg::Name { name, .. } => put_word(alloc, out, name),
+        SMsg::Name { name } => put_word(alloc, out, name),
         SMsg::Unit { .. } => put_parens(out),
-        SMsg::Tuple {
-            first,
-            second,
-            more,
-            ..
-        } => {
+        SMsg::Tuple { parts, .. } => {
             put_mark(out, Mark::ParenOpen)?;
-            put_message(alloc, out, first)?;
+            put_message(alloc, out, &parts.first)?;
             put_mark(out, Mark::Comma)?;
-            put_message(alloc, out, second)?;
-            put_messages(alloc, out, more)?;
+            put_message(alloc, out, &parts.second)?;
+            put_messages(alloc, out, &parts.more)?;
             put_mark(out, Mark::ParenClose)?;
             Ok(())
         }
@@ -117,20 +112,14 @@ pub fn put_type(alloc: Global, out: &mut Vec<Kind>, ty: &STy) -> Result<(), NoMe
     match ty {
         STy::Un { .. } => put_reserved(out, Reserved::Un),
         STy::Unit { .. } => put_parens(out),
-        STy::Tuple {
-            name,
-            first,
-            more,
-            last,
-            ..
-        } => {
+        STy::Tuple { parts, .. } => {
             put_mark(out, Mark::ParenOpen)?;
-            put_word(alloc, out, name)?;
+            put_word(alloc, out, &parts.name)?;
             put_mark(out, Mark::Colon)?;
-            put_type(alloc, out, first)?;
+            put_type(alloc, out, &parts.first)?;
             put_mark(out, Mark::Comma)?;
-            put_fields(alloc, out, more)?;
-            put_last(alloc, out, last)?;
+            put_fields(alloc, out, &parts.more)?;
+            put_last(alloc, out, &parts.last)?;
             put_mark(out, Mark::ParenClose)?;
             Ok(())
         }
@@ -151,7 +140,7 @@ pub fn put_type(alloc: Global, out: &mut Vec<Kind>, ty: &STy) -> Result<(), NoMe
             put_reserved(out, Reserved::Nonce)?;
             put_effect(alloc, out, effect)
         }
-        STy::Abbr { name, .. } => put_word(alloc, out, name),
+        STy::Abbr { name } => put_word(alloc, out, name),
     }
 }
 

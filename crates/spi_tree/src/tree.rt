@@ -8,11 +8,11 @@ pub struct SWord {
 }
 
 /// A message. `Num` stands for a name in the effects of a derivation, by the name's number.
+#[cycle(messages)]
 pub enum SMsg {
-    /// `x`
+    /// `x`, which stands where its word does
     Name {
         name: SWord,
-        span: Span,
     },
     /// `()`
     Unit {
@@ -20,9 +20,7 @@ pub enum SMsg {
     },
     /// `(M, N, ..)`, of two messages or more
     Tuple {
-        first: Box<SMsg>,
-        second: Box<SMsg>,
-        more: Vec<SMsg>,
+        parts: Box<MsgParts>,
         span: Span,
     },
     /// `inl M`
@@ -53,17 +51,32 @@ pub enum SMsg {
     },
 }
 
+/// The components of a tuple: the first two, and those behind them.
+#[cycle(messages)]
+pub struct MsgParts {
+    pub first: SMsg,
+    pub second: SMsg,
+    pub more: Vec<SMsg>,
+}
+
+impl Drop for MsgParts {
+    #[cycle(messages)]
+    fn drop(self) {
+        let MsgParts {
+            first: _,
+            second: _,
+            more: _,
+        } = self;
+    }
+}
+
 impl Drop for SMsg {
+    #[cycle(messages)]
     fn drop(self) {
         match self {
-            SMsg::Name { name: _, span: _ } => {}
+            SMsg::Name { name: _ } => {}
             SMsg::Unit { span: _ } => {}
-            SMsg::Tuple {
-                first: _,
-                second: _,
-                more: _,
-                span: _,
-            } => {}
+            SMsg::Tuple { parts: _, span: _ } => {}
             SMsg::Inl { part: _, span: _ } => {}
             SMsg::Inr { part: _, span: _ } => {}
             SMsg::Enc {
@@ -90,10 +103,7 @@ pub enum STy {
     },
     /// `(x: T, y: U, .., V)`, of two types or more
     Tuple {
-        name: SWord,
-        first: Box<STy>,
-        more: Vec<SField>,
-        last: Box<Last>,
+        parts: Box<TyParts>,
         span: Span,
     },
     /// `(T + U)`
@@ -112,11 +122,31 @@ pub enum STy {
         effect: Vec<SAtom>,
         span: Span,
     },
-    /// the name of a declared type
+    /// the name of a declared type, which stands where its word does
     Abbr {
         name: SWord,
-        span: Span,
     },
+}
+
+/// The parts of a tuple type: the first with its name, those between, and the last.
+#[cycle(types)]
+pub struct TyParts {
+    pub name: SWord,
+    pub first: STy,
+    pub more: Vec<SField>,
+    pub last: Last,
+}
+
+impl Drop for TyParts {
+    #[cycle(types)]
+    fn drop(self) {
+        let TyParts {
+            name: _,
+            first: _,
+            more: _,
+            last: _,
+        } = self;
+    }
 }
 
 impl Drop for STy {
@@ -125,13 +155,7 @@ impl Drop for STy {
         match self {
             STy::Un { span: _ } => {}
             STy::Unit { span: _ } => {}
-            STy::Tuple {
-                name: _,
-                first: _,
-                more: _,
-                last: _,
-                span: _,
-            } => {}
+            STy::Tuple { parts: _, span: _ } => {}
             STy::Sum {
                 left: _,
                 right: _,
@@ -139,7 +163,7 @@ impl Drop for STy {
             } => {}
             STy::Key { part: _, span: _ } => {}
             STy::Nonce { effect: _, span: _ } => {}
-            STy::Abbr { name: _, span: _ } => {}
+            STy::Abbr { name: _ } => {}
         }
     }
 }

@@ -5,7 +5,7 @@ ghost use Rattle.spi_tree.specs.Views.{msg_of, atom_of, ty_of, last_of, field_of
 
 use crate::NoMemory;
 use spi_text::Text;
-use spi_tree::{Decl, Last, SAtom, SField, SMsg, STy, SWord};
+use spi_tree::{Decl, Last, MsgParts, SAtom, SField, SMsg, STy, SWord, TyParts};
 use std::alloc::Global;
 
 // The value in a box, where there is one.
@@ -46,26 +46,31 @@ fn messages(alloc: Global, ms: &[SMsg]) -> Result<Vec<SMsg>, NoMemory>
     Ok(all)
 }
 
+#[cycle(messages)]
+fn message_parts(alloc: Global, parts: &MsgParts) -> Result<MsgParts, NoMemory>
+    ensures first { IfOk result (λ r. msg_of r.first ≡ msg_of parts.now.first) }
+    ensures second { IfOk result (λ r. msg_of r.second ≡ msg_of parts.now.second) }
+    ensures more { IfOk result (λ r. map msg_of r.more.items ≡ map msg_of parts.now.more.items) }
+{
+    Ok(MsgParts {
+        first: message(alloc, &parts.first)?,
+        second: message(alloc, &parts.second)?,
+        more: messages(alloc, &parts.more)?,
+    })
+}
+
 /// An equal message. It visits each node once.
 #[cycle(messages)]
 pub fn message(alloc: Global, m: &SMsg) -> Result<SMsg, NoMemory>
     ensures { IfOk result (λ r. msg_of r ≡ msg_of m.now) }
 {
     match m {
-        SMsg::Name { name, span } => Ok(SMsg::Name {
+        SMsg::Name { name } => Ok(SMsg::Name {
             name: word(alloc, name)?,
-            span: *span,
         }),
         SMsg::Unit { span } => Ok(SMsg::Unit { span: *span }),
-        SMsg::Tuple {
-            first,
-            second,
-            more,
-            span,
-        } => Ok(SMsg::Tuple {
-            first: boxed(alloc, message(alloc, first))?,
-            second: boxed(alloc, message(alloc, second))?,
-            more: messages(alloc, more)?,
+        SMsg::Tuple { parts, span } => Ok(SMsg::Tuple {
+            parts: boxed(alloc, message_parts(alloc, parts))?,
             span: *span,
         }),
         SMsg::Inl { part, span } => Ok(SMsg::Inl {
@@ -146,6 +151,21 @@ fn fields(alloc: Global, fs: &[SField]) -> Result<Vec<SField>, NoMemory>
     Ok(all)
 }
 
+#[cycle(types)]
+fn type_parts(alloc: Global, parts: &TyParts) -> Result<TyParts, NoMemory>
+    ensures name { IfOk result (λ r. r.name ≡ parts.now.name) }
+    ensures first { IfOk result (λ r. ty_of r.first ≡ ty_of parts.now.first) }
+    ensures more { IfOk result (λ r. map field_of r.more.items ≡ map field_of parts.now.more.items) }
+    ensures last { IfOk result (λ r. last_of r.last ≡ last_of parts.now.last) }
+{
+    Ok(TyParts {
+        name: word(alloc, &parts.name)?,
+        first: ty(alloc, &parts.first)?,
+        more: fields(alloc, &parts.more)?,
+        last: last(alloc, &parts.last)?,
+    })
+}
+
 /// An equal type. It visits each node once.
 #[cycle(types)]
 pub fn ty(alloc: Global, a: &STy) -> Result<STy, NoMemory>
@@ -154,17 +174,8 @@ pub fn ty(alloc: Global, a: &STy) -> Result<STy, NoMemory>
     match a {
         STy::Un { span } => Ok(STy::Un { span: *span }),
         STy::Unit { span } => Ok(STy::Unit { span: *span }),
-        STy::Tuple {
-            name,
-            first,
-            more,
-            last: end,
-            span,
-        } => Ok(STy::Tuple {
-            name: word(alloc, name)?,
-            first: boxed(alloc, ty(alloc, first))?,
-            more: fields(alloc, more)?,
-            last: boxed(alloc, last(alloc, end))?,
+        STy::Tuple { parts, span } => Ok(STy::Tuple {
+            parts: boxed(alloc, type_parts(alloc, parts))?,
             span: *span,
         }),
         STy::Sum { left, right, span } => Ok(STy::Sum {
@@ -180,9 +191,8 @@ pub fn ty(alloc: Global, a: &STy) -> Result<STy, NoMemory>
             effect: atoms(alloc, effect)?,
             span: *span,
         }),
-        STy::Abbr { name, span } => Ok(STy::Abbr {
+        STy::Abbr { name } => Ok(STy::Abbr {
             name: word(alloc, name)?,
-            span: *span,
         }),
     }
 }

@@ -178,7 +178,6 @@ fn spelled(alloc: Global, w: &SWord) -> Result<SMsg, NoMemory>
 {
     Ok(SMsg::Name {
         name: word(alloc, w)?,
-        span: w.span,
     })
 }
 

@@ -54,10 +54,22 @@ fn child(m: &Msg, step: u32) -> Option<&Msg> {
         Msg::Bound(_) => None,
         Msg::Name(_) => None,
         Msg::Unit => None,
-        Msg::Pair(a, b) => { if step == 0 { Some(a) } else { Some(b) } }
+        Msg::Pair(two) => {
+            if step == 0 {
+                Some(&two.first)
+            } else {
+                Some(&two.second)
+            }
+        }
         Msg::Inl(a) => Some(a),
         Msg::Inr(a) => Some(a),
-        Msg::Enc(a, k) => { if step == 0 { Some(k) } else { Some(a) } }
+        Msg::Enc(sealed) => {
+            if step == 0 {
+                Some(&sealed.key)
+            } else {
+                Some(&sealed.body)
+            }
+        }
         Msg::Hash(a) => Some(a),
     }
 }
@@ -65,7 +77,7 @@ fn child(m: &Msg, step: u32) -> Option<&Msg> {
 // The name of a Key type under which a ciphertext is, and what it takes.
 fn key_of<'a>(env: &'a Env, m: &Msg) -> Option<(u32, &'a Ty)> {
     match m {
-        Msg::Enc(_, k) => match &**k {
+        Msg::Enc(sealed) => match &sealed.key {
             Msg::Name(x) => match env.get(*x) {
                 Some(Ty::Key(payload)) => Some((*x, payload)),
                 _ => None,
@@ -100,10 +112,10 @@ fn form_of(m: &Msg) -> &'static str {
         Msg::Bound(_) => " isn't in scope",
         Msg::Name(_) => " isn't in scope",
         Msg::Unit => " is the empty message",
-        Msg::Pair(_, _) => " is a pair",
+        Msg::Pair(_) => " is a pair",
         Msg::Inl(_) => " is tagged by inl",
         Msg::Inr(_) => " is tagged by inr",
-        Msg::Enc(_, _) => " is a ciphertext, and so of type `Un`",
+        Msg::Enc(_) => " is a ciphertext, and so of type `Un`",
         Msg::Hash(_) => " is a hash, and so of type `Un`",
     }
 }

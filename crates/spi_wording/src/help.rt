@@ -90,8 +90,8 @@ fn put_advice(page: &mut Page, scene: &Scene<'_>, form: &Form, part: &Msg, wante
             None => page.put("what is sent in the clear is of type `Un` in all its parts"),
         },
         Ty::Unit => page.put("`()` is wanted here: are all parts there, in the order of the type?"),
-        Ty::Pair(_, _) => page.put(help_parts(form)),
-        Ty::Sum(_, _) => page.put(
+        Ty::Pair(_) => page.put(help_parts(form)),
+        Ty::Sum(_) => page.put(
             "the type has two cases: write `inl` or `inr` in front of the message",
         ),
         Ty::Key(_) => page.put(

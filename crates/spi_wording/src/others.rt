@@ -142,10 +142,10 @@ fn has_cipher(m: &Msg) -> bool {
         Msg::Bound(_) => false,
         Msg::Name(_) => false,
         Msg::Unit => false,
-        Msg::Pair(a, b) => has_cipher(a) || has_cipher(b),
+        Msg::Pair(two) => has_cipher(&two.first) || has_cipher(&two.second),
         Msg::Inl(a) => has_cipher(a),
         Msg::Inr(a) => has_cipher(a),
-        Msg::Enc(_, _) => true,
+        Msg::Enc(_) => true,
         Msg::Hash(a) => has_cipher(a),
     }
 }
@@ -168,8 +168,8 @@ fn type_has_cipher(t: &Ty) -> bool {
     match t {
         Ty::Un => false,
         Ty::Unit => false,
-        Ty::Pair(t, u) => type_has_cipher(t) || type_has_cipher(u),
-        Ty::Sum(t, u) => type_has_cipher(t) || type_has_cipher(u),
+        Ty::Pair(two) => type_has_cipher(&two.first) || type_has_cipher(&two.second),
+        Ty::Sum(two) => type_has_cipher(&two.first) || type_has_cipher(&two.second),
         Ty::Key(t) => type_has_cipher(t),
         Ty::Nonce(e) => effect_has_cipher(e),
     }

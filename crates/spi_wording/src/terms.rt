@@ -69,11 +69,11 @@ pub fn put_message(page: &mut Page, names: &Names, depth: u32, m: &Msg) {
         Msg::Bound(i) => put_binder(page, names, depth.saturating_sub(*i).saturating_sub(1)),
         Msg::Name(x) => put_name(page, names, *x),
         Msg::Unit => page.put("()"),
-        Msg::Pair(first, second) => {
+        Msg::Pair(two) => {
             page.put("(");
-            put_message(page, names, depth, first);
+            put_message(page, names, depth, &two.first);
             page.put(", ");
-            put_message(page, names, depth, second);
+            put_message(page, names, depth, &two.second);
             page.put(")");
         }
         Msg::Inl(part) => {
@@ -84,11 +84,11 @@ pub fn put_message(page: &mut Page, names: &Names, depth: u32, m: &Msg) {
             page.put("inr ");
             put_message(page, names, depth, part);
         }
-        Msg::Enc(body, key) => {
+        Msg::Enc(sealed) => {
             page.put("{");
-            put_message(page, names, depth, body);
+            put_message(page, names, depth, &sealed.body);
             page.put("}");
-            put_message(page, names, depth, key);
+            put_message(page, names, depth, &sealed.key);
         }
         Msg::Hash(part) => {
             page.put("hash(");
@@ -126,24 +126,24 @@ pub fn put_types(page: &mut Page, names: &Names, depth: u32, t: &Ty, is_behind: 
     match t {
         Ty::Un => page.put("Un"),
         Ty::Unit => page.put("()"),
-        Ty::Pair(first, second) => {
+        Ty::Pair(two) => {
             if !is_behind {
                 page.put("(");
             }
             put_binder(page, names, depth);
             page.put(": ");
-            put_types(page, names, depth, first, false);
+            put_types(page, names, depth, &two.first, false);
             page.put(", ");
-            put_types(page, names, depth.saturating_add(1), second, true);
+            put_types(page, names, depth.saturating_add(1), &two.second, true);
             if !is_behind {
                 page.put(")");
             }
         }
-        Ty::Sum(left, right) => {
+        Ty::Sum(two) => {
             page.put("(");
-            put_types(page, names, depth, left, false);
+            put_types(page, names, depth, &two.first, false);
             page.put(" + ");
-            put_types(page, names, depth, right, false);
+            put_types(page, names, depth, &two.second, false);
             page.put(")");
         }
         Ty::Key(payload) => {

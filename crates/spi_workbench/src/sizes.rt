@@ -32,14 +32,9 @@ pub fn message_nodes(m: &SMsg) -> u64
 {
     match m {
         SMsg::Name { .. } | SMsg::Unit { .. } | SMsg::Num { .. } => 1,
-        SMsg::Tuple {
-            first,
-            second,
-            more,
-            ..
-        } => {
-            let rest = message_nodes(second).saturating_add(messages_nodes(more));
-            one_over(message_nodes(first), rest)
+        SMsg::Tuple { parts, .. } => {
+            let rest = message_nodes(&parts.second).saturating_add(messages_nodes(&parts.more));
+            one_over(message_nodes(&parts.first), rest)
         }
         SMsg::Inl { part, .. } => one_more(message_nodes(part)),
         SMsg::Inr { part, .. } => one_more(message_nodes(part)),
@@ -97,19 +92,15 @@ pub fn type_nodes(sizes: &Sizes, t: &STy) -> u64
 {
     match t {
         STy::Un { .. } | STy::Unit { .. } => 1,
-        STy::Tuple {
-            first,
-            more,
-            last,
-            ..
-        } => {
-            let rest = fields_nodes(sizes, more).saturating_add(last_nodes(sizes, last));
-            one_over(type_nodes(sizes, first), rest)
+        STy::Tuple { parts, .. } => {
+            let last = last_nodes(sizes, &parts.last);
+            let rest = fields_nodes(sizes, &parts.more).saturating_add(last);
+            one_over(type_nodes(sizes, &parts.first), rest)
         }
         STy::Sum { left, right, .. } => one_over(type_nodes(sizes, left), type_nodes(sizes, right)),
         STy::Key { part, .. } => one_more(type_nodes(sizes, part)),
         STy::Nonce { effect, .. } => one_more(atoms_nodes(effect)),
-        STy::Abbr { name, .. } => abbreviation_nodes(sizes, name),
+        STy::Abbr { name } => abbreviation_nodes(sizes, name),
     }
 }
 

@@ -62,8 +62,8 @@ fn opened(alloc: Global, judge: &mut Judge, t: &Ty, m: &Msg) -> Result<TyId, NoM
 /// Whether the second type is the second part of the first, with the channel for its binder.
 fn is_opened(alloc: Global, judge: &mut Judge, parts: &Sample<'_>) -> Result<bool, NoMemory> {
     match parts.first {
-        Ty::Pair(_, under) => {
-            let made = opened(alloc, judge, under, parts.channel)?;
+        Ty::Pair(two) => {
+            let made = opened(alloc, judge, &two.second, parts.channel)?;
             Ok(made == judge.ty(alloc, parts.second)?)
         }
         _ => Ok(false),

@@ -28,8 +28,8 @@ enum OfTerms {
 /// Whether the second type is the second part of the first, with the channel for its binder.
 fn is_opened(alloc: Global, parts: &Sample<'_>) -> Result<bool, NoMemory> {
     match parts.first {
-        Ty::Pair(_, under) => {
-            let made = opened(alloc, under, parts.channel)?;
+        Ty::Pair(two) => {
+            let made = opened(alloc, &two.second, parts.channel)?;
             Ok(same_type(&made, parts.second))
         }
         _ => Ok(false),

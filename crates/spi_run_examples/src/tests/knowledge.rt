@@ -15,14 +15,14 @@ fn pair(alloc: Global, a: Msg, b: Msg) -> Result<Msg, NoMemory>
     ensures { IfOk result
         (λ m. message_size (message m) ≡ 1 + (message_size (message a) + message_size (message b))) }
 {
-    Ok(Msg::Pair(Box::new(alloc, a)?, Box::new(alloc, b)?))
+    Msg::paired(alloc, a, b)
 }
 
 fn enc(alloc: Global, a: Msg, b: Msg) -> Result<Msg, NoMemory>
     ensures { IfOk result
         (λ m. message_size (message m) ≡ 1 + (message_size (message a) + message_size (message b))) }
 {
-    Ok(Msg::Enc(Box::new(alloc, a)?, Box::new(alloc, b)?))
+    Msg::sealed(alloc, a, b)
 }
 
 // The ciphertext of #0 under the pair of #1 and #2.
