@@ -50,10 +50,7 @@ fn laid_out(scope: &Scope, count: u64, nodes: Vec<Node>, p: &SProc) -> Process
         (process_in (λ s. s) (abbreviations scope.now.types) scope.now.held.names (proc_of p.now)) }
     ensures { result ≡ over_free (abbreviations scope.now.types) scope.now.held.names (proc_of p.now) }
 {
-    match Process::from_nodes(scope.held.len(), nodes) {
-        Some(process) => process,
-        None => unreachable!(),
-    }
+    Process::spelled(scope.held.len(), nodes)
 }
 
 /// A process over the names in scope, and where its nodes stand.

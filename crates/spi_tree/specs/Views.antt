@@ -5,7 +5,8 @@ use Rattle.spi_tree.specs.declared.tree.SMsg.{SMsg, Row_of-SMsg, end_of-SMsg, mo
 use Rattle.spi_tree.specs.declared.tree.SMsg.TheVariants as smsg
 use Rattle.spi_tree.specs.declared.tree.SAtom.{SAtom}
 use Rattle.spi_tree.specs.declared.tree.SAtom.TheVariants as satom
-use Rattle.spi_tree.specs.declared.tree.STy.{STy, Row_of-SField, end_of-SField, more_of-SField}
+use Rattle.spi_tree.specs.declared.tree.STy.{STy}
+use Rattle.spi_tree.specs.declared.tree.TyParts.{Row_of-SField, end_of-SField, more_of-SField}
 use Rattle.spi_tree.specs.declared.tree.STy.TheVariants as sty
 use Rattle.spi_tree.specs.declared.tree.SField.{SField}
 use Rattle.spi_tree.specs.declared.tree.Last.{Last}
