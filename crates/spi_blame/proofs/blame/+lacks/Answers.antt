@@ -18,13 +18,13 @@ pub lacking-returns-in_ok-lacking-in-Un-t-2 : goal.lacking-returns-in_ok-lacking
 lacking-returns-in_ok-lacking-in-Un-t-2 k c = one_ok c.args.env.now (typed (message c.args.m.now) (ty c.args.t.now)) (typed (in_left (message c.in-Inl.a.value)) un) (typed (message c.deref-in-Un-t-2.result.now) (ty c.args.t.now)) (typed (message c.in-Inl.a.value) un) c.in_ok-lacking-in-Un-t-2.field-0 c.of_one.result (typed_equal (ap message c.in-Inl.is) (ap ty c.in-Un-t-2.is)) (typed_equal (ap message c.deref-in-Un-t-2.ensures) (ap ty c.in-Un-t-2.is)) asks_left_un c.in_ok-lacking-in-Un-t-2.ensures c.of_one.ensures
 
 pub lacking-returns-in_ok-lacking-in-Sum : goal.lacking-returns-in_ok-lacking-in-Sum
-lacking-returns-in_ok-lacking-in-Sum k c = one_ok c.args.env.now (typed (message c.args.m.now) (ty c.args.t.now)) (typed (in_left (message c.in-Inl.a.value)) (sum_ty (ty c.in-Sum.u.value) (ty c.in-Sum.field-1.value))) (typed (message c.deref-in-Sum.result.now) (ty c.deref-in-Sum-2.result.now)) (typed (message c.in-Inl.a.value) (ty c.in-Sum.u.value)) c.in_ok-lacking-in-Sum.field-0 c.of_one-in-Sum.result (typed_equal (ap message c.in-Inl.is) (ap ty c.in-Sum.is)) (typed_equal (ap message c.deref-in-Sum.ensures) (ap ty c.deref-in-Sum-2.ensures)) asks_left c.in_ok-lacking-in-Sum.ensures c.of_one-in-Sum.ensures
+lacking-returns-in_ok-lacking-in-Sum k c = one_ok c.args.env.now (typed (message c.args.m.now) (ty c.args.t.now)) (typed (in_left (message c.in-Inl.a.value)) (sum_ty (ty c.in-Sum.types.value.first) (ty c.in-Sum.types.value.second))) (typed (message c.deref-in-Sum.result.now) (ty c.deref-in-Sum-2.result.now.first)) (typed (message c.in-Inl.a.value) (ty c.in-Sum.types.value.first)) c.in_ok-lacking-in-Sum.field-0 c.of_one-in-Sum.result (typed_equal (ap message c.in-Inl.is) (ap ty c.in-Sum.is)) (typed_equal (ap message c.deref-in-Sum.ensures) (ap (λ v. ty v.first) c.deref-in-Sum-2.ensures)) asks_left c.in_ok-lacking-in-Sum.ensures c.of_one-in-Sum.ensures
 
 pub lacking-returns-in_ok-lacking-in-Un-t-3 : goal.lacking-returns-in_ok-lacking-in-Un-t-3
 lacking-returns-in_ok-lacking-in-Un-t-3 k c = one_ok c.args.env.now (typed (message c.args.m.now) (ty c.args.t.now)) (typed (in_right (message c.in-Inr.a.value)) un) (typed (message c.deref-in-Un-t-3.result.now) (ty c.args.t.now)) (typed (message c.in-Inr.a.value) un) c.in_ok-lacking-in-Un-t-3.field-0 c.of_one-in-Un-t-3.result (typed_equal (ap message c.in-Inr.is) (ap ty c.in-Un-t-3.is)) (typed_equal (ap message c.deref-in-Un-t-3.ensures) (ap ty c.in-Un-t-3.is)) asks_right_un c.in_ok-lacking-in-Un-t-3.ensures c.of_one-in-Un-t-3.ensures
 
 pub lacking-returns-in_ok-lacking-in-Sum-t : goal.lacking-returns-in_ok-lacking-in-Sum-t
-lacking-returns-in_ok-lacking-in-Sum-t k c = one_ok c.args.env.now (typed (message c.args.m.now) (ty c.args.t.now)) (typed (in_right (message c.in-Inr.a.value)) (sum_ty (ty c.in-Sum-t.field-0.value) (ty c.in-Sum-t.u.value))) (typed (message c.deref-in-Sum-t.result.now) (ty c.deref-in-Sum-t-2.result.now)) (typed (message c.in-Inr.a.value) (ty c.in-Sum-t.u.value)) c.in_ok-lacking-in-Sum-t.field-0 c.of_one-in-Sum-t.result (typed_equal (ap message c.in-Inr.is) (ap ty c.in-Sum-t.is)) (typed_equal (ap message c.deref-in-Sum-t.ensures) (ap ty c.deref-in-Sum-t-2.ensures)) asks_right c.in_ok-lacking-in-Sum-t.ensures c.of_one-in-Sum-t.ensures
+lacking-returns-in_ok-lacking-in-Sum-t k c = one_ok c.args.env.now (typed (message c.args.m.now) (ty c.args.t.now)) (typed (in_right (message c.in-Inr.a.value)) (sum_ty (ty c.in-Sum-t.types.value.first) (ty c.in-Sum-t.types.value.second))) (typed (message c.deref-in-Sum-t.result.now) (ty c.deref-in-Sum-t-2.result.now.second)) (typed (message c.in-Inr.a.value) (ty c.in-Sum-t.types.value.second)) c.in_ok-lacking-in-Sum-t.field-0 c.of_one-in-Sum-t.result (typed_equal (ap message c.in-Inr.is) (ap ty c.in-Sum-t.is)) (typed_equal (ap message c.deref-in-Sum-t.ensures) (ap (λ v. ty v.second) c.deref-in-Sum-t-2.ensures)) asks_right c.in_ok-lacking-in-Sum-t.ensures c.of_one-in-Sum-t.ensures
 
 pub lacking-returns-in_ok-lacking_label-in-Un-t-5 : goal.lacking-returns-in_ok-lacking_label-in-Un-t-5
 lacking-returns-in_ok-lacking_label-in-Un-t-5 k c = one_ok c.args.env.now (typed (message c.args.m.now) (ty c.args.t.now)) (typed (hash (message c.in-Hash.a.value)) un) (labelled (message c.deref-in-Un-t-5.result.now)) (labelled (message c.in-Hash.a.value)) c.in_ok-lacking_label-in-Un-t-5.field-0 c.of_one-in-Un-t-5.result (typed_equal (ap message c.in-Hash.is) (ap ty c.in-Un-t-5.is)) (ap (λ m. labelled (message m)) c.deref-in-Un-t-5.ensures) asks_hash c.in_ok-lacking_label-in-Un-t-5.ensures c.of_one-in-Un-t-5.ensures
@@ -39,7 +39,7 @@ pub lacking_label-returns-in-Unit : goal.lacking_label-returns-in-Unit
 lacking_label-returns-in-Unit k c = label_as (ap message c.in-Unit.is) label_unit
 
 pub lacking_label-returns-in_ok-second-in-Pair : goal.lacking_label-returns-in_ok-second-in-Pair
-lacking_label-returns-in_ok-second-in-Pair k c = two_ok c.args.env.now (labelled (message c.args.m.now)) (labelled (pair (message c.in-Pair.a.value) (message c.in-Pair.b.value))) (labelled (message c.deref.result.now)) (labelled (message c.in-Pair.a.value)) (labelled (message c.deref-in-Pair.result.now)) (labelled (message c.in-Pair.b.value)) c.in_ok-first-in-Pair.first c.in_ok-second-in-Pair.second c.of_two.result (ap (λ m. labelled (message m)) c.in-Pair.is) (ap (λ m. labelled (message m)) c.deref.ensures) (ap (λ m. labelled (message m)) c.deref-in-Pair.ensures) asks_label_pair c.in_ok-first-in-Pair.ensures c.in_ok-second-in-Pair.ensures c.of_two.ensures
+lacking_label-returns-in_ok-second-in-Pair k c = two_ok c.args.env.now (labelled (message c.args.m.now)) (labelled (pair (message c.in-Pair.two.value.first) (message c.in-Pair.two.value.second))) (labelled (message c.deref.result.now.first)) (labelled (message c.in-Pair.two.value.first)) (labelled (message c.deref-in-Pair.result.now.second)) (labelled (message c.in-Pair.two.value.second)) c.in_ok-first-in-Pair.first c.in_ok-second-in-Pair.second c.of_two.result (ap (λ m. labelled (message m)) c.in-Pair.is) (ap (λ v. labelled (message v.first)) c.deref.ensures) (ap (λ v. labelled (message v.second)) c.deref-in-Pair.ensures) asks_label_pair c.in_ok-first-in-Pair.ensures c.in_ok-second-in-Pair.ensures c.of_two.ensures
 
 pub lacking_label-returns-in_ok-lacking_label-in-Inl : goal.lacking_label-returns-in_ok-lacking_label-in-Inl
 lacking_label-returns-in_ok-lacking_label-in-Inl k c = one_ok c.args.env.now (labelled (message c.args.m.now)) (labelled (in_left (message c.in-Inl.a.value))) (labelled (message c.deref-in-Inl.result.now)) (labelled (message c.in-Inl.a.value)) c.in_ok-lacking_label-in-Inl.field-0 c.of_one.result (ap (λ m. labelled (message m)) c.in-Inl.is) (ap (λ m. labelled (message m)) c.deref-in-Inl.ensures) asks_label_left c.in_ok-lacking_label-in-Inl.ensures c.of_one.ensures
@@ -51,7 +51,7 @@ pub lacking_label-returns-in_ok-lacking_label-in-Hash : goal.lacking_label-retur
 lacking_label-returns-in_ok-lacking_label-in-Hash k c = one_ok c.args.env.now (labelled (message c.args.m.now)) (labelled (hash (message c.in-Hash.a.value))) (labelled (message c.deref-in-Hash.result.now)) (labelled (message c.in-Hash.a.value)) c.in_ok-lacking_label-in-Hash.field-0 c.of_one-in-Hash.result (ap (λ m. labelled (message m)) c.in-Hash.is) (ap (λ m. labelled (message m)) c.deref-in-Hash.ensures) asks_label_hash c.in_ok-lacking_label-in-Hash.ensures c.of_one-in-Hash.ensures
 
 pub lacking_label-returns-in-Enc : goal.lacking_label-returns-in-Enc
-lacking_label-returns-in-Enc k c = sealed_ok c.args.env.now (labelled (message c.args.m.now)) (labelled (enc (message c.in-Enc.a.value) (message c.in-Enc.k.value))) (message c.deref-in-Enc.result.now) (message c.in-Enc.a.value) (message c.deref-in-Enc-2.result.now) (message c.in-Enc.k.value) c.lacking_sealed.result (ap (λ m. labelled (message m)) c.in-Enc.is) (ap message c.deref-in-Enc.ensures) (ap message c.deref-in-Enc-2.ensures) (label_sealed _ _) c.lacking_sealed.ensures
+lacking_label-returns-in-Enc k c = sealed_ok c.args.env.now (labelled (message c.args.m.now)) (labelled (enc (message c.in-Enc.sealed.value.body) (message c.in-Enc.sealed.value.key))) (message c.deref-in-Enc.result.now.body) (message c.in-Enc.sealed.value.body) (message c.deref-in-Enc-2.result.now.key) (message c.in-Enc.sealed.value.key) c.lacking_sealed.result (ap (λ m. labelled (message m)) c.in-Enc.is) (ap (λ v. message v.body) c.deref-in-Enc.ensures) (ap (λ v. message v.key) c.deref-in-Enc-2.ensures) (label_sealed _ _) c.lacking_sealed.ensures
 
 pub lacking_sealed-returns-in_ok-lacking-in-Some : goal.lacking_sealed-returns-in_ok-lacking-in-Some
 lacking_sealed-returns-in_ok-lacking-in-Some k c = let h = c.in-Some.ensures.some in weaker c.of_body.result (λ o g q j. g c.args.env.now q _ _ (j _ (asks_for h)) (key_holds h) c.in_ok-lacking-in-Some.ensures) c.of_body.ensures
@@ -60,10 +60,10 @@ pub lacking_sealed-returns-in-None : goal.lacking_sealed-returns-in-None
 lacking_sealed-returns-in-None k c = weaker c.lacking_both.result (λ o g q j. g q (j _ (asks_enc c.in-None.ensures.none))) c.lacking_both.ensures
 
 pub lacking-returns-in-Un-t : goal.lacking-returns-in-Un-t
-lacking-returns-in-Un-t k c = both_ok c.args.env.now (typed (message c.args.m.now) (ty c.args.t.now)) (typed (pair (message c.in-Pair.a.value) (message c.in-Pair.b.value)) un) (typed (message c.deref.result.now) (ty c.args.t.now)) (typed (message c.in-Pair.a.value) un) (typed (message c.deref-in-Un-t.result.now) (ty c.args.t.now)) (typed (message c.in-Pair.b.value) un) c.lacking_both.result (typed_equal (ap message c.in-Pair.is) (ap ty c.in-Un-t.is)) (typed_equal (ap message c.deref.ensures) (ap ty c.in-Un-t.is)) (typed_equal (ap message c.deref-in-Un-t.ensures) (ap ty c.in-Un-t.is)) asks_pair_un c.lacking_both.ensures
+lacking-returns-in-Un-t k c = both_ok c.args.env.now (typed (message c.args.m.now) (ty c.args.t.now)) (typed (pair (message c.in-Pair.two.value.first) (message c.in-Pair.two.value.second)) un) (typed (message c.deref.result.now.first) (ty c.args.t.now)) (typed (message c.in-Pair.two.value.first) un) (typed (message c.deref-in-Un-t.result.now.second) (ty c.args.t.now)) (typed (message c.in-Pair.two.value.second) un) c.lacking_both.result (typed_equal (ap message c.in-Pair.is) (ap ty c.in-Un-t.is)) (typed_equal (ap (λ v. message v.first) c.deref.ensures) (ap ty c.in-Un-t.is)) (typed_equal (ap (λ v. message v.second) c.deref-in-Un-t.ensures) (ap ty c.in-Un-t.is)) asks_pair_un c.lacking_both.ensures
 
 pub lacking-returns-in_ok-wanted-in-Pair-t : goal.lacking-returns-in_ok-wanted-in-Pair-t
-lacking-returns-in_ok-wanted-in-Pair-t k c = both_ok c.args.env.now (typed (message c.args.m.now) (ty c.args.t.now)) (typed (pair (message c.in-Pair.a.value) (message c.in-Pair.b.value)) (pair_ty (ty c.in-Pair-t.u.value) (ty c.in-Pair-t.v.value))) (typed (message c.deref-in-Pair-t-3.result.now) (ty c.deref-in-Pair-t-4.result.now)) (typed (message c.in-Pair.a.value) (ty c.in-Pair-t.u.value)) (typed (message c.deref-in-Pair-t-5.result.now) (ty c.in_ok-wanted-in-Pair-t.wanted)) (typed (message c.in-Pair.b.value) (ty_put (message c.in-Pair.a.value) (ty c.in-Pair-t.v.value))) c.lacking_both-in-Pair-t.result (typed_equal (ap message c.in-Pair.is) (ap ty c.in-Pair-t.is)) (typed_equal (ap message c.deref-in-Pair-t-3.ensures) (ap ty c.deref-in-Pair-t-4.ensures)) (typed_equal (ap message c.deref-in-Pair-t-5.ensures) (put_equal c.in_ok-wanted-in-Pair-t.ensures (ap message c.deref-in-Pair-t-2.ensures) (ap ty c.deref-in-Pair-t.ensures))) asks_pair c.lacking_both-in-Pair-t.ensures
+lacking-returns-in_ok-wanted-in-Pair-t k c = both_ok c.args.env.now (typed (message c.args.m.now) (ty c.args.t.now)) (typed (pair (message c.in-Pair.two.value.first) (message c.in-Pair.two.value.second)) (pair_ty (ty c.in-Pair-t.types.value.first) (ty c.in-Pair-t.types.value.second))) (typed (message c.deref-in-Pair-t-3.result.now.first) (ty c.deref-in-Pair-t-4.result.now.first)) (typed (message c.in-Pair.two.value.first) (ty c.in-Pair-t.types.value.first)) (typed (message c.deref-in-Pair-t-5.result.now.second) (ty c.in_ok-wanted-in-Pair-t.wanted)) (typed (message c.in-Pair.two.value.second) (ty_put (message c.in-Pair.two.value.first) (ty c.in-Pair-t.types.value.second))) c.lacking_both-in-Pair-t.result (typed_equal (ap message c.in-Pair.is) (ap ty c.in-Pair-t.is)) (typed_equal (ap (λ v. message v.first) c.deref-in-Pair-t-3.ensures) (ap (λ v. ty v.first) c.deref-in-Pair-t-4.ensures)) (typed_equal (ap (λ v. message v.second) c.deref-in-Pair-t-5.ensures) (put_equal c.in_ok-wanted-in-Pair-t.ensures (ap (λ v. message v.first) c.deref-in-Pair-t-2.ensures) (ap (λ v. ty v.second) c.deref-in-Pair-t.ensures))) asks_pair c.lacking_both-in-Pair-t.ensures
 
 pub lacking-returns-in-Un-t-4 : goal.lacking-returns-in-Un-t-4
-lacking-returns-in-Un-t-4 k c = sealed_ok c.args.env.now (typed (message c.args.m.now) (ty c.args.t.now)) (typed (enc (message c.in-Enc.a.value) (message c.in-Enc.k.value)) un) (message c.deref-in-Un-t-4.result.now) (message c.in-Enc.a.value) (message c.deref-in-Un-t-4-2.result.now) (message c.in-Enc.k.value) c.lacking_sealed.result (typed_equal (ap message c.in-Enc.is) (ap ty c.in-Un-t-4.is)) (ap message c.deref-in-Un-t-4.ensures) (ap message c.deref-in-Un-t-4-2.ensures) (λ qs j. j) c.lacking_sealed.ensures
+lacking-returns-in-Un-t-4 k c = sealed_ok c.args.env.now (typed (message c.args.m.now) (ty c.args.t.now)) (typed (enc (message c.in-Enc.sealed.value.body) (message c.in-Enc.sealed.value.key)) un) (message c.deref-in-Un-t-4.result.now.body) (message c.in-Enc.sealed.value.body) (message c.deref-in-Un-t-4-2.result.now.key) (message c.in-Enc.sealed.value.key) c.lacking_sealed.result (typed_equal (ap message c.in-Enc.is) (ap ty c.in-Un-t-4.is)) (ap (λ v. message v.body) c.deref-in-Un-t-4.ensures) (ap (λ v. message v.key) c.deref-in-Un-t-4-2.ensures) (λ qs j. j) c.lacking_sealed.ensures

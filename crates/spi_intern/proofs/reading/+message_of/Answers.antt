@@ -1,6 +1,7 @@
 use Rattle.std.proofs.Common.{◌≡◌, ap, arith, subst, ◌∙◌, Result, Ok, IfOk}
 use Rattle.spi_term.specs.Term as Term
 use Rattle.spi_term.specs.View.{message}
+use Rattle.spi_term.proofs.Choices.{if_ok}
 use Rattle.spi_intern.proofs.Sized.{pair_of, enc_of, left_of, right_of, hash_of, bound_of, name_of, unit_of}
 use Rattle.spi_term.specs.declared.term.Msg.{Msg}
 use Rattle.spi_intern.proofs.reading.+message_of.Goals as goal
@@ -42,16 +43,16 @@ returns-in-Unit t c = unit_of c.args.store.now.messages c.args.id c.in-Unit.ensu
 pub returns-in_ok-second-in-Pair : goal.returns-in_ok-second-in-Pair
 returns-in_ok-second-in-Pair t c =
     let w = pair_of c.args.store.now.messages c.args.id c.in-Pair.ensures c.requires in
-    let x = ok_message c.in_ok-first-in-Pair.ensures c.message_of.ensures in
-    let y = ok_message c.in_ok-second-in-Pair.ensures c.message_of-in-Pair.ensures in
-    (λ i. Term.pair (x i) (y i)) ∙ w.is
+    let x = c.in_ok-first-in-Pair.ensures in
+    let y = c.in_ok-second-in-Pair.ensures in
+    if_ok c.paired.result (λ m e. e ∙ (λ i. Term.pair (x i) (y i)) ∙ w.is) c.paired.ensures
 
 pub returns-in_ok-key-in-Enc : goal.returns-in_ok-key-in-Enc
 returns-in_ok-key-in-Enc t c =
     let w = enc_of c.args.store.now.messages c.args.id c.in-Enc.ensures c.requires in
-    let x = ok_message c.in_ok-body-in-Enc.ensures c.message_of-in-Enc.ensures in
-    let y = ok_message c.in_ok-key-in-Enc.ensures c.message_of-in-Enc-2.ensures in
-    (λ i. Term.enc (x i) (y i)) ∙ w.is
+    let x = c.in_ok-body-in-Enc.ensures in
+    let y = c.in_ok-key-in-Enc.ensures in
+    if_ok c.sealed.result (λ m e. e ∙ (λ i. Term.enc (x i) (y i)) ∙ w.is) c.sealed.ensures
 
 pub returns-in_ok-part-in-Inl : goal.returns-in_ok-part-in-Inl
 returns-in_ok-part-in-Inl t c =

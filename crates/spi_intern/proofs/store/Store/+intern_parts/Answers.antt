@@ -1,3 +1,4 @@
+use Rattle.std.proofs.Common.{ap}
 use Rattle.spi_intern.proofs.Meanings.{means_keeps, un_node, unit_node, nonce_node, made}
 use Rattle.spi_intern.proofs.Adding.{adds_un, adds_unit, adds_pair, adds_sum, adds_key, adds_nonce, put_node}
 use Rattle.spi_intern.proofs.store.Store.+intern_parts.Goals as goal
@@ -24,10 +25,10 @@ pub returns-in_ok-id-in-Unit-clause-at : goal.returns-in_ok-id-in-Unit-clause-at
 returns-in_ok-id-in-Unit-clause-at t c = rw c.in-Unit.is (made c.in_ok-id-in-Unit.ensures.kept unit_node c.in_ok-id-in-Unit.ensures.at)
 
 pub returns-in_ok-id-in-Pair-clause-at : goal.returns-in_ok-id-in-Pair-clause-at
-returns-in_ok-id-in-Pair-clause-at t c = rw (c.in-Pair.is, ← c.deref.ensures, ← c.deref-in-Pair.ensures) (c.in_ok-id-in-Pair.ensures.at _ _ (means_keeps c.in_ok-second-in-Pair.ensures.kept c.in_ok-first-in-Pair.ensures.at) c.in_ok-second-in-Pair.ensures.at)
+returns-in_ok-id-in-Pair-clause-at t c = rw (c.in-Pair.is, ← ap (λ v. v.first) c.deref.ensures, ← ap (λ v. v.second) c.deref-in-Pair.ensures) (c.in_ok-id-in-Pair.ensures.at _ _ (means_keeps c.in_ok-second-in-Pair.ensures.kept c.in_ok-first-in-Pair.ensures.at) c.in_ok-second-in-Pair.ensures.at)
 
 pub returns-in_ok-id-in-Sum-clause-at : goal.returns-in_ok-id-in-Sum-clause-at
-returns-in_ok-id-in-Sum-clause-at t c = rw (c.in-Sum.is, ← c.deref-in-Sum.ensures, ← c.deref-in-Sum-2.ensures) (c.in_ok-id-in-Sum.ensures.at _ _ (means_keeps c.in_ok-second-in-Sum.ensures.kept c.in_ok-first-in-Sum.ensures.at) c.in_ok-second-in-Sum.ensures.at)
+returns-in_ok-id-in-Sum-clause-at t c = rw (c.in-Sum.is, ← ap (λ v. v.first) c.deref-in-Sum.ensures, ← ap (λ v. v.second) c.deref-in-Sum-2.ensures) (c.in_ok-id-in-Sum.ensures.at _ _ (means_keeps c.in_ok-second-in-Sum.ensures.kept c.in_ok-first-in-Sum.ensures.at) c.in_ok-second-in-Sum.ensures.at)
 
 pub returns-in_ok-id-in-Key-clause-at : goal.returns-in_ok-id-in-Key-clause-at
 returns-in_ok-id-in-Key-clause-at t c = rw (c.in-Key.is, ← c.deref-in-Key.ensures) (c.in_ok-id-in-Key.ensures.at _ c.in_ok-part-in-Key.ensures.at)
@@ -52,14 +53,14 @@ returns-in_ok-id-in-Pair-clause-adds t c =
     let a = c.in_ok-first-in-Pair.ensures in
     let b = c.in_ok-second-in-Pair.ensures in
     let p = c.in_ok-id-in-Pair.ensures in
-    rw (c.in-Pair.is, ← c.deref.ensures, ← c.deref-in-Pair.ensures) (adds_pair a.adds b.kept b.adds p.kept (p.adds _ _ (means_keeps b.kept a.at) b.at))
+    rw (c.in-Pair.is, ← ap (λ v. v.first) c.deref.ensures, ← ap (λ v. v.second) c.deref-in-Pair.ensures) (adds_pair a.adds b.kept b.adds p.kept (p.adds _ _ (means_keeps b.kept a.at) b.at))
 
 pub returns-in_ok-id-in-Sum-clause-adds : goal.returns-in_ok-id-in-Sum-clause-adds
 returns-in_ok-id-in-Sum-clause-adds t c =
     let a = c.in_ok-first-in-Sum.ensures in
     let b = c.in_ok-second-in-Sum.ensures in
     let p = c.in_ok-id-in-Sum.ensures in
-    rw (c.in-Sum.is, ← c.deref-in-Sum.ensures, ← c.deref-in-Sum-2.ensures) (adds_sum a.adds b.kept b.adds p.kept (p.adds _ _ (means_keeps b.kept a.at) b.at))
+    rw (c.in-Sum.is, ← ap (λ v. v.first) c.deref-in-Sum.ensures, ← ap (λ v. v.second) c.deref-in-Sum-2.ensures) (adds_sum a.adds b.kept b.adds p.kept (p.adds _ _ (means_keeps b.kept a.at) b.at))
 
 pub returns-in_ok-id-in-Key-clause-adds : goal.returns-in_ok-id-in-Key-clause-adds
 returns-in_ok-id-in-Key-clause-adds t c =
