@@ -39,13 +39,13 @@ pub returns-in-Unit : goal.returns-in-Unit
 returns-in-Unit t c = let e : c.eq-in-Unit.result ≡ part_eq c.part-part.result NoParts = c.eq-in-Unit.ensures in e ∙ unit_same c.args.store.now.messages c.args.id c.part-part.result c.part-part.ensures c.requires (message c.args.m.now) (ap message c.in-Unit.is)
 
 pub returns-then-is_message : goal.returns-then-is_message
-returns-then-is_message t c = second_same pair pair_one (pair_of c.args.store.now.messages c.args.id c.in-Pair-part.ensures c.requires) c.in-Pair.a.value c.in-Pair.b.value (ap message c.in-Pair.is) c.deref.ensures c.is_message.ensures c.if-is_message.true c.deref-then-is_message.ensures c.is_message-then-is_message.ensures
+returns-then-is_message t c = second_same pair pair_one (pair_of c.args.store.now.messages c.args.id c.in-Pair-part.ensures c.requires) c.in-Pair.two.value.first c.in-Pair.two.value.second (ap message c.in-Pair.is) (ap (λ v. v.first) c.deref.ensures) c.is_message.ensures c.if-is_message.true (ap (λ v. v.second) c.deref-then-is_message.ensures) c.is_message-then-is_message.ensures
 
 pub returns-else-is_message : goal.returns-else-is_message
-returns-else-is_message t c = first_not_same pair pair_one (pair_of c.args.store.now.messages c.args.id c.in-Pair-part.ensures c.requires) c.in-Pair.a.value c.in-Pair.b.value (ap message c.in-Pair.is) c.deref.ensures c.is_message.ensures c.if-is_message.false
+returns-else-is_message t c = first_not_same pair pair_one (pair_of c.args.store.now.messages c.args.id c.in-Pair-part.ensures c.requires) c.in-Pair.two.value.first c.in-Pair.two.value.second (ap message c.in-Pair.is) (ap (λ v. v.first) c.deref.ensures) c.is_message.ensures c.if-is_message.false
 
 pub returns-in_default : goal.returns-in_default
-returns-in_default t c = no_pair c.args.store.now.messages c.args.id c.part-part.result c.part-part.ensures c.requires (message c.args.m.now) (message c.in-Pair.a.value) (message c.in-Pair.b.value) (ap message c.in-Pair.is) c.in_default.not-Pair
+returns-in_default t c = no_pair c.args.store.now.messages c.args.id c.part-part.result c.part-part.ensures c.requires (message c.args.m.now) (message c.in-Pair.two.value.first) (message c.in-Pair.two.value.second) (ap message c.in-Pair.is) c.in_default.not-Pair
 
 pub returns-in-Inl-part : goal.returns-in-Inl-part
 returns-in-Inl-part t c = part_same in_left left_one (left_of c.args.store.now.messages c.args.id c.in-Inl-part.ensures c.requires) (ap message c.in-Inl.is) c.deref-in-Inl-part.ensures c.is_message-in-Inl-part.ensures
@@ -60,13 +60,13 @@ pub returns-in_default-part-2 : goal.returns-in_default-part-2
 returns-in_default-part-2 t c = no_right c.args.store.now.messages c.args.id c.part-part.result c.part-part.ensures c.requires (message c.args.m.now) (message c.in-Inr.a.value) (ap message c.in-Inr.is) c.in_default-part-2.not-Inr
 
 pub returns-then-is_message-2 : goal.returns-then-is_message-2
-returns-then-is_message-2 t c = second_same enc enc_one (enc_of c.args.store.now.messages c.args.id c.in-Enc-part.ensures c.requires) c.in-Enc.a.value c.in-Enc.b.value (ap message c.in-Enc.is) c.deref-in-Enc-part.ensures c.is_message-in-Enc-part.ensures c.if-is_message-2.true c.deref-then-is_message-2.ensures c.is_message-then-is_message-2.ensures
+returns-then-is_message-2 t c = second_same enc enc_one (enc_of c.args.store.now.messages c.args.id c.in-Enc-part.ensures c.requires) c.in-Enc.sealed.value.body c.in-Enc.sealed.value.key (ap message c.in-Enc.is) (ap (λ v. v.body) c.deref-in-Enc-part.ensures) c.is_message-in-Enc-part.ensures c.if-is_message-2.true (ap (λ v. v.key) c.deref-then-is_message-2.ensures) c.is_message-then-is_message-2.ensures
 
 pub returns-else-is_message-2 : goal.returns-else-is_message-2
-returns-else-is_message-2 t c = first_not_same enc enc_one (enc_of c.args.store.now.messages c.args.id c.in-Enc-part.ensures c.requires) c.in-Enc.a.value c.in-Enc.b.value (ap message c.in-Enc.is) c.deref-in-Enc-part.ensures c.is_message-in-Enc-part.ensures c.if-is_message-2.false
+returns-else-is_message-2 t c = first_not_same enc enc_one (enc_of c.args.store.now.messages c.args.id c.in-Enc-part.ensures c.requires) c.in-Enc.sealed.value.body c.in-Enc.sealed.value.key (ap message c.in-Enc.is) (ap (λ v. v.body) c.deref-in-Enc-part.ensures) c.is_message-in-Enc-part.ensures c.if-is_message-2.false
 
 pub returns-in_default-part-3 : goal.returns-in_default-part-3
-returns-in_default-part-3 t c = no_enc c.args.store.now.messages c.args.id c.part-part.result c.part-part.ensures c.requires (message c.args.m.now) (message c.in-Enc.a.value) (message c.in-Enc.b.value) (ap message c.in-Enc.is) c.in_default-part-3.not-Enc
+returns-in_default-part-3 t c = no_enc c.args.store.now.messages c.args.id c.part-part.result c.part-part.ensures c.requires (message c.args.m.now) (message c.in-Enc.sealed.value.body) (message c.in-Enc.sealed.value.key) (ap message c.in-Enc.is) c.in_default-part-3.not-Enc
 
 pub returns-in-Hash-part : goal.returns-in-Hash-part
 returns-in-Hash-part t c = part_same hash hash_one (hash_of c.args.store.now.messages c.args.id c.in-Hash-part.ensures c.requires) (ap message c.in-Hash.is) c.deref-in-Hash-part.ensures c.is_message-in-Hash-part.ensures

@@ -14,10 +14,10 @@ pub returns-in-Unit-clause-at : goal.returns-in-Unit-clause-at
 returns-in-Unit-clause-at t c = instance_none c.args.store.now.messages c.message_over-in-Unit.new.self.messages c.args.links.now c.args.scope P.Unit Term.unit _ (ap message c.in-Unit.is) says_unit (λ g. refl) _ c.message_over-in-Unit.ensures.at
 
 pub instance-requires : goal.instance-requires
-instance-requires t c = (read_less c.decreases c.in-Pair.is c.deref.ensures (omega arith), (search rules, c.requires.names))
+instance-requires t c = (read_less c.decreases c.in-Pair.is (ap (λ v. v.first) c.deref.ensures) (omega arith), (search rules, c.requires.names))
 
 pub instance-requires-in-Pair : goal.instance-requires-in-Pair
-instance-requires-in-Pair t c = (read_less c.decreases c.in-Pair.is c.deref-in-Pair.ensures (omega arith), (search rules, names_kept c.in_ok-first-in-Pair.ensures.kept.messages c.requires.names))
+instance-requires-in-Pair t c = (read_less c.decreases c.in-Pair.is (ap (λ v. v.second) c.deref-in-Pair.ensures) (omega arith), (search rules, names_kept c.in_ok-first-in-Pair.ensures.kept.messages c.requires.names))
 
 pub message_over-requires-in-Pair : goal.message_over-requires-in-Pair
 message_over-requires-in-Pair t c =
@@ -25,13 +25,13 @@ message_over-requires-in-Pair t c =
 
 pub returns-in_ok-second-in-Pair-clause-at : goal.returns-in_ok-second-in-Pair-clause-at
 returns-in_ok-second-in-Pair-clause-at t c =
-    instance_two c.message_over-in-Pair.new.self.messages (P.Pair _ _) Term.pair (λ m n x y. says_pair x y) (λ g a b. refl) _ _ _ (cc (ap message c.in-Pair.is)) c.in_ok-first-in-Pair.ensures.at c.in_ok-first-in-Pair.ensures.kept.messages c.in_ok-second-in-Pair.ensures.kept.messages c.in_ok-second-in-Pair.ensures.at _ c.message_over-in-Pair.ensures.at
+    instance_two c.message_over-in-Pair.new.self.messages (P.Pair _ _) Term.pair (λ m n x y. says_pair x y) (λ g a b. refl) _ _ _ (cc (ap message c.in-Pair.is, ap (λ v. v.first) c.deref.ensures, ap (λ v. v.second) c.deref-in-Pair.ensures)) c.in_ok-first-in-Pair.ensures.at c.in_ok-first-in-Pair.ensures.kept.messages c.in_ok-second-in-Pair.ensures.kept.messages c.in_ok-second-in-Pair.ensures.at _ c.message_over-in-Pair.ensures.at
 
 pub instance-requires-in-Enc : goal.instance-requires-in-Enc
-instance-requires-in-Enc t c = (read_less c.decreases c.in-Enc.is c.deref-in-Enc.ensures (omega arith), (search rules, c.requires.names))
+instance-requires-in-Enc t c = (read_less c.decreases c.in-Enc.is (ap (λ v. v.body) c.deref-in-Enc.ensures) (omega arith), (search rules, c.requires.names))
 
 pub instance-requires-in-Enc-2 : goal.instance-requires-in-Enc-2
-instance-requires-in-Enc-2 t c = (read_less c.decreases c.in-Enc.is c.deref-in-Enc-2.ensures (omega arith), (search rules, names_kept c.in_ok-body-in-Enc.ensures.kept.messages c.requires.names))
+instance-requires-in-Enc-2 t c = (read_less c.decreases c.in-Enc.is (ap (λ v. v.key) c.deref-in-Enc-2.ensures) (omega arith), (search rules, names_kept c.in_ok-body-in-Enc.ensures.kept.messages c.requires.names))
 
 pub message_over-requires-in-Enc : goal.message_over-requires-in-Enc
 message_over-requires-in-Enc t c =
@@ -39,7 +39,7 @@ message_over-requires-in-Enc t c =
 
 pub returns-in_ok-key-in-Enc-clause-at : goal.returns-in_ok-key-in-Enc-clause-at
 returns-in_ok-key-in-Enc-clause-at t c =
-    instance_two c.message_over-in-Enc.new.self.messages (P.Enc _ _) Term.enc (λ m n x y. says_enc x y) (λ g a b. refl) _ _ _ (cc (ap message c.in-Enc.is)) c.in_ok-body-in-Enc.ensures.at c.in_ok-body-in-Enc.ensures.kept.messages c.in_ok-key-in-Enc.ensures.kept.messages c.in_ok-key-in-Enc.ensures.at _ c.message_over-in-Enc.ensures.at
+    instance_two c.message_over-in-Enc.new.self.messages (P.Enc _ _) Term.enc (λ m n x y. says_enc x y) (λ g a b. refl) _ _ _ (cc (ap message c.in-Enc.is, ap (λ v. v.body) c.deref-in-Enc.ensures, ap (λ v. v.key) c.deref-in-Enc-2.ensures)) c.in_ok-body-in-Enc.ensures.at c.in_ok-body-in-Enc.ensures.kept.messages c.in_ok-key-in-Enc.ensures.kept.messages c.in_ok-key-in-Enc.ensures.at _ c.message_over-in-Enc.ensures.at
 
 pub message_over-requires-in-Inl : goal.message_over-requires-in-Inl
 message_over-requires-in-Inl t c = given_one (P.Inl _) Term.in_left (λ m x. says_left x) _ c.requires.names c.in_ok-part-in-Inl.ensures.at
