@@ -15,20 +15,20 @@ use Rattle.spi_scope.proofs.derivations.+numbered.Goals as goal
 pub read_numbered-returns-in_ok-whole-in-Tuple : goal.read_numbered-returns-in_ok-whole-in-Tuple
 read_numbered-returns-in_ok-whole-in-Tuple t c =
     let w = c.in-Tuple in
-    let e : c.args.m.now ≡ Tuple w.first w.second w.more w.span = w.is in
+    let e : c.args.m.now ≡ Tuple w.parts w.span = w.is in
     let f = c.in_ok-first-in-Tuple in
     let g = c.in_ok-second-in-Tuple in
     let h = c.in_ok-more-in-Tuple in
-    let e1 = subst (λ (x : SMsg). f.total ≡ stopped (c.args.spent + message_size (numbered_message (msg_of x)))) c.deref.ensures f.ensures.counted in
-    let e2 = subst (λ (x : SMsg). g.total ≡ stopped (c.saturating_add-in-Tuple.result + message_size (numbered_message (msg_of x)))) c.deref-in-Tuple.ensures g.ensures.counted in
-    let e3 = subst (λ (x : List SMsg). h.total ≡ stopped (g.total + row_nodes (numbered_messages (msgs_of_list (map msg_of x))))) c.deref-in-Tuple-2.ensures.value h.ensures.counted in
-    let r1 = subst (λ (x : SMsg). f.total ≤ 1000 → message f.first ≡ numbered_message (msg_of x)) c.deref.ensures f.ensures.read in
-    let r2 = subst (λ (x : SMsg). g.total ≤ 1000 → message g.second ≡ numbered_message (msg_of x)) c.deref-in-Tuple.ensures g.ensures.read in
-    let r3 = subst (λ (x : List SMsg). h.total ≤ 1000 → map message h.more.items ≡ numbered_messages (msgs_of_list (map msg_of x))) c.deref-in-Tuple-2.ensures.value h.ensures.read in
+    let e1 = subst (λ (x : SMsg). f.total ≡ stopped (c.args.spent + message_size (numbered_message (msg_of x)))) (ap (λ v. v.first) c.deref.ensures) f.ensures.counted in
+    let e2 = subst (λ (x : SMsg). g.total ≡ stopped (c.saturating_add-in-Tuple.result + message_size (numbered_message (msg_of x)))) (ap (λ v. v.second) c.deref-in-Tuple.ensures) g.ensures.counted in
+    let e3 = subst (λ (x : List SMsg). h.total ≡ stopped (g.total + row_nodes (numbered_messages (msgs_of_list (map msg_of x))))) (c.deref-in-Tuple-3.ensures.value ∙ ap (λ v. v.more.items) c.deref-in-Tuple-2.ensures) h.ensures.counted in
+    let r1 = subst (λ (x : SMsg). f.total ≤ 1000 → message f.first ≡ numbered_message (msg_of x)) (ap (λ v. v.first) c.deref.ensures) f.ensures.read in
+    let r2 = subst (λ (x : SMsg). g.total ≤ 1000 → message g.second ≡ numbered_message (msg_of x)) (ap (λ v. v.second) c.deref-in-Tuple.ensures) g.ensures.read in
+    let r3 = subst (λ (x : List SMsg). h.total ≤ 1000 → map message h.more.items ≡ numbered_messages (msgs_of_list (map msg_of x))) (c.deref-in-Tuple-3.ensures.value ∙ ap (λ v. v.more.items) c.deref-in-Tuple-2.ensures) h.ensures.read in
     record {
-      counted = rw (ap msg_of e ∙ tuple_is w.first w.second w.more w.span)
-          (tuple_total c.args.spent c.saturating_add-in-Tuple.result f.total g.total h.total w.span (msg_of w.first.value) (msg_of w.second.value) (msgs_of_list (map msg_of w.more.items)) e1 c.saturating_add-in-Tuple.ensures e2 e3);
-      read = rw (ap msg_of e ∙ tuple_is w.first w.second w.more w.span)
-          (tuple_read c.args.spent c.saturating_add-in-Tuple.result f.total g.total h.total w.span (msg_of w.first.value) (msg_of w.second.value) (msgs_of_list (map msg_of w.more.items)) e1 c.saturating_add-in-Tuple.ensures e2 e3
+      counted = rw (ap msg_of e ∙ tuple_is w.parts w.span)
+          (tuple_total c.args.spent c.saturating_add-in-Tuple.result f.total g.total h.total w.span (msg_of w.parts.value.first) (msg_of w.parts.value.second) (msgs_of_list (map msg_of w.parts.value.more.items)) e1 c.saturating_add-in-Tuple.ensures e2 e3);
+      read = rw (ap msg_of e ∙ tuple_is w.parts w.span)
+          (tuple_read c.args.spent c.saturating_add-in-Tuple.result f.total g.total h.total w.span (msg_of w.parts.value.first) (msg_of w.parts.value.second) (msgs_of_list (map msg_of w.parts.value.more.items)) e1 c.saturating_add-in-Tuple.ensures e2 e3
           (message f.first) (message g.second) (map message h.more.items) (message c.in_ok-whole-in-Tuple.whole) r1 r2 r3 c.in_ok-whole-in-Tuple.ensures);
     }

@@ -16,22 +16,22 @@ use Rattle.spi_scope.proofs.messages.+messages.Goals as goal
 pub read_tuple-returns-in_err-rest-in-Tuple : goal.read_tuple-returns-in_err-rest-in-Tuple
 read_tuple-returns-in_err-rest-in-Tuple t c =
     let w = c.in-Tuple in
-    let e : c.args.m.now ≡ Tuple w.first w.second w.more w.span = w.is in
-    rw (ap msg_of e ∙ tuple_is w.first w.second w.more w.span) (search rules)
+    let e : c.args.m.now ≡ Tuple w.parts w.span = w.is in
+    rw (ap msg_of e ∙ tuple_is w.parts w.span) (search rules)
 
 pub read_tuple-returns : goal.read_tuple-returns
 read_tuple-returns t c =
     let w = c.in-Tuple in
-    let e : c.args.m.now ≡ Tuple w.first w.second w.more w.span = w.is in
+    let e : c.args.m.now ≡ Tuple w.parts w.span = w.is in
     let xs = c.args.scope.now.held.names in
     let k = c.args.scope.now.count in
     let f = c.in_ok-first-in-Tuple in
     let g = c.in_ok-next-in-Tuple in
     let h = c.in_ok-rest-in-Tuple in
-    let h1 = subst (λ (x : SMsg). Counted message_size (message f.first) f.total (run (message_points xs (msg_of x)) k) k c.args.spent (message_in c.args.base xs (msg_of x))) c.deref.ensures f.ensures in
-    let h2 = subst (λ (x : SMsg). Counted message_size (message g.next) g.total (run (message_points xs (msg_of x)) k) k c.saturating_add.result (message_in c.args.base xs (msg_of x))) c.deref-in-Tuple.ensures g.ensures in
-    let h3 = subst (λ (x : List SMsg). let ms = messages_in c.args.base xs (msgs_of_list (map msg_of x)) in Counted (λ (_ : Message). row_nodes ms) (message h.rest) h.total (run (messages_points xs (msgs_of_list (map msg_of x))) k) k g.total (nested (message g.next) ms)) c.deref-in-Tuple-2.ensures.value h.ensures in
-    rw (ap msg_of e ∙ tuple_is w.first w.second w.more w.span)
-    (message_tuple c.args.base c.args.spent k xs w.span (msg_of w.first.value) (msg_of w.second.value) (msgs_of_list (map msg_of w.more.items)) c.saturating_add.result f.total g.total h.total
+    let h1 = subst (λ (x : SMsg). Counted message_size (message f.first) f.total (run (message_points xs (msg_of x)) k) k c.args.spent (message_in c.args.base xs (msg_of x))) (ap (λ v. v.first) c.deref.ensures) f.ensures in
+    let h2 = subst (λ (x : SMsg). Counted message_size (message g.next) g.total (run (message_points xs (msg_of x)) k) k c.saturating_add.result (message_in c.args.base xs (msg_of x))) (ap (λ v. v.second) c.deref-in-Tuple.ensures) g.ensures in
+    let h3 = subst (λ (x : List SMsg). let ms = messages_in c.args.base xs (msgs_of_list (map msg_of x)) in Counted (λ (_ : Message). row_nodes ms) (message h.rest) h.total (run (messages_points xs (msgs_of_list (map msg_of x))) k) k g.total (nested (message g.next) ms)) (c.deref-in-Tuple-3.ensures.value ∙ ap (λ v. v.more.items) c.deref-in-Tuple-2.ensures) h.ensures in
+    rw (ap msg_of e ∙ tuple_is w.parts w.span)
+    (message_tuple c.args.base c.args.spent k xs w.span (msg_of w.parts.value.first) (msg_of w.parts.value.second) (msgs_of_list (map msg_of w.parts.value.more.items)) c.saturating_add.result f.total g.total h.total
     (message f.first) (message g.next) (message h.rest) (message c.in_ok-whole-in-Tuple.whole)
     h1 c.saturating_add.ensures h2 h3 c.in_ok-whole-in-Tuple.ensures)

@@ -5,6 +5,7 @@ use Rattle.spi_tree.specs.declared.tree.SField.{SField}
 use Rattle.spi_tree.specs.declared.tree.STy.{STy}
 use Rattle.spi_tree.specs.declared.tree.Last.{Last}
 use Rattle.spi_tree.specs.declared.tree.STy.TheVariants.{Tuple}
+use Rattle.spi_tree.specs.declared.tree.TyParts.{out-TyParts}
 use Rattle.spi_tree.proofs.Rows.{tuple_ty_is}
 use Rattle.spi_term.specs.View.{ty}
 use Rattle.spi_scope.specs.Meaning.{behind}
@@ -16,39 +17,40 @@ pub read_tuple-returns : goal.read_tuple-returns
 read_tuple-returns t c =
     let w = c.in-Tuple in
     let s = c.args.scope.now in
-    let e : c.args.t.now ≡ Tuple w.name w.first w.more w.last w.span = w.is in
+    let e : c.args.t.now ≡ Tuple w.parts w.span = w.is in
+    let p = out-TyParts w.parts.value in
     let s1 = c.read_type.new.scope in
-    let b : c.bind.new.self ≡ with_names s1.held (w.name.word ∷ s1.held.names) = c.in_ok-bind-in-Tuple.ensures ∙ ap (λ x. with_names s1.held (x ∷ s1.held.names)) c.as_str.ensures in
+    let b : c.bind.new.self ≡ with_names s1.held (p.name.word ∷ s1.held.names) = c.in_ok-bind-in-Tuple.ensures ∙ ap (λ x. with_names s1.held (x ∷ s1.held.names)) (c.as_str.ensures ∙ ap (λ v. (out-TyParts v).name.word) c.deref-in-Tuple.ensures) in
     let t1 = naming s1 c.bind.new.self in
     let head = c.in_ok-head-in-Tuple in
-    let parts = c.in_ok-parts-in-Tuple in
+    let fields = c.in_ok-fields-in-Tuple in
     let tail = c.in_ok-tail-in-Tuple in
     let s3 = c.read_last.new.scope in
-    let h1 : CountedType c.args.base c.saturating_add.result head.total (ty head.head) (ty_of w.first.value) s =
-    subst (λ (x : STy). CountedType c.args.base c.saturating_add.result head.total (ty head.head) (ty_of x) s) c.deref.ensures head.ensures.gives in
-    let h2 = subst (λ (x : List SField). CountedFields c.args.base head.total parts.total (map ty parts.parts.items) (fields_of_list (map field_of x)) t1) c.deref-in-Tuple.ensures.value parts.ensures.gives in
-    let f = subst (λ (x : List SField). c.read_fields.new.scope ≡ in_names t1 (behind t1.held.names (fields_of_list (map field_of x)))) c.deref-in-Tuple.ensures.value parts.ensures.scope in
-    let h3 = subst (λ (x : Last). CountedLast c.args.base parts.total tail.total (ty tail.tail) (last_of x) c.read_fields.new.scope) c.deref-in-Tuple-2.ensures tail.ensures.gives in
-    let behind_name = bound s s1 c.bind.new.self w.name.word head.ensures.scope b in
+    let h1 : CountedType c.args.base c.saturating_add.result head.total (ty head.head) (ty_of p.first) s =
+    subst (λ (x : STy). CountedType c.args.base c.saturating_add.result head.total (ty head.head) (ty_of x) s) (ap (λ v. (out-TyParts v).first) c.deref.ensures) head.ensures.gives in
+    let h2 = subst (λ (x : List SField). CountedFields c.args.base head.total fields.total (map ty fields.fields.items) (fields_of_list (map field_of x)) t1) (c.deref-in-Tuple-3.ensures.value ∙ ap (λ v. (out-TyParts v).more.items) c.deref-in-Tuple-2.ensures) fields.ensures.gives in
+    let f = subst (λ (x : List SField). c.read_fields.new.scope ≡ in_names t1 (behind t1.held.names (fields_of_list (map field_of x)))) (c.deref-in-Tuple-3.ensures.value ∙ ap (λ v. (out-TyParts v).more.items) c.deref-in-Tuple-2.ensures) fields.ensures.scope in
+    let h3 = subst (λ (x : Last). CountedLast c.args.base fields.total tail.total (ty tail.tail) (last_of x) c.read_fields.new.scope) (ap (λ v. (out-TyParts v).last) c.deref-in-Tuple-4.ensures) tail.ensures.gives in
+    let behind_name = bound s s1 c.bind.new.self p.name.word head.ensures.scope b in
     record {
-      gives = rw (ap ty_of e ∙ tuple_ty_is w.name w.first w.more w.last w.span)
-          (tuple_counted c.args.base c.args.spent w.span w.name (ty_of w.first.value) (fields_of_list (map field_of w.more.items)) (last_of w.last.value) s t1 c.read_fields.new.scope
-          head.total parts.total tail.total (ty head.head) (map ty parts.parts.items) (ty tail.tail) (ty c.in_ok-ty-in-Tuple.ty)
+      gives = rw (ap ty_of e ∙ tuple_ty_is w.parts w.span)
+          (tuple_counted c.args.base c.args.spent w.span p.name (ty_of p.first) (fields_of_list (map field_of p.more.items)) (last_of p.last) s t1 c.read_fields.new.scope
+          head.total fields.total tail.total (ty head.head) (map ty fields.fields.items) (ty tail.tail) (ty c.in_ok-ty-in-Tuple.ty)
           (rw c.saturating_add.ensures at h1) behind_name h2 f h3 c.in_ok-ty-in-Tuple.ensures);
       scope = ap (naming s3) (c.cut.ensures ∙ ap (λ n. with_names s3.held (drop (length s3.held.names - n) s3.held.names)) c.len-len.ensures)
-          ∙ tuple_left c.args.base c.args.spent w.span w.name (ty_of w.first.value) (fields_of_list (map field_of w.more.items)) (last_of w.last.value) s t1 c.read_fields.new.scope
-          head.total parts.total tail.total (ty head.head) (map ty parts.parts.items) (ty tail.tail) (ty c.in_ok-ty-in-Tuple.ty)
+          ∙ tuple_left c.args.base c.args.spent w.span p.name (ty_of p.first) (fields_of_list (map field_of p.more.items)) (last_of p.last) s t1 c.read_fields.new.scope
+          head.total fields.total tail.total (ty head.head) (map ty fields.fields.items) (ty tail.tail) (ty c.in_ok-ty-in-Tuple.ty)
           behind_name f s3 tail.ensures.scope;
     }
 
-pub read_tuple-returns-in_err-parts-in-Tuple-clause-gives : goal.read_tuple-returns-in_err-parts-in-Tuple-clause-gives
-read_tuple-returns-in_err-parts-in-Tuple-clause-gives t c =
+pub read_tuple-returns-in_err-fields-in-Tuple-clause-gives : goal.read_tuple-returns-in_err-fields-in-Tuple-clause-gives
+read_tuple-returns-in_err-fields-in-Tuple-clause-gives t c =
     let w = c.in-Tuple in
-    let e : c.args.t.now ≡ Tuple w.name w.first w.more w.last w.span = w.is in
-    rw (ap ty_of e ∙ tuple_ty_is w.name w.first w.more w.last w.span) (search rules)
+    let e : c.args.t.now ≡ Tuple w.parts w.span = w.is in
+    rw (ap ty_of e ∙ tuple_ty_is w.parts w.span) (search rules)
 
 pub read_tuple-returns-in_err-tail-in-Tuple-clause-gives : goal.read_tuple-returns-in_err-tail-in-Tuple-clause-gives
 read_tuple-returns-in_err-tail-in-Tuple-clause-gives t c =
     let w = c.in-Tuple in
-    let e : c.args.t.now ≡ Tuple w.name w.first w.more w.last w.span = w.is in
-    rw (ap ty_of e ∙ tuple_ty_is w.name w.first w.more w.last w.span) (search rules)
+    let e : c.args.t.now ≡ Tuple w.parts w.span = w.is in
+    rw (ap ty_of e ∙ tuple_ty_is w.parts w.span) (search rules)

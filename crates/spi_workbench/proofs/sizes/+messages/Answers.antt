@@ -1,7 +1,6 @@
 use Rattle.std.proofs.Common.{arith, ◌≡◌, ap, ◌∙◌, map}
 use Rattle.spi_tree.specs.Trees.{msgs_of_list}
 use Rattle.spi_tree.specs.Views.{msg_of}
-use Rattle.spi_tree.specs.declared.tree.SMsg.{SMsg}
 use Rattle.spi_tree.specs.declared.tree.SMsg.TheVariants.{Tuple}
 use Rattle.spi_tree.proofs.Rows.{tuple_is}
 use Rattle.spi_term.specs.Spelling.{stopped}
@@ -11,8 +10,8 @@ use Rattle.spi_workbench.proofs.sizes.+messages.Goals as goal
 pub message_nodes-returns-in-Tuple : goal.message_nodes-returns-in-Tuple
 message_nodes-returns-in-Tuple t c =
     let w = c.in-Tuple in
-    let e : c.args.m.now ≡ Tuple w.first w.second w.more w.span = w.is in
-    let a : c.message_nodes-in-Tuple.result ≡ stopped (msg_size (msg_of w.first.value)) = c.message_nodes-in-Tuple.ensures ∙ ap (λ (x : SMsg). stopped (msg_size (msg_of x))) c.deref-in-Tuple-2.ensures in
-    let b : c.message_nodes.result ≡ stopped (msg_size (msg_of w.second.value)) = c.message_nodes.ensures ∙ ap (λ (x : SMsg). stopped (msg_size (msg_of x))) c.deref.ensures in
-    let r : c.messages_nodes.result ≡ stopped (msgs_size (msgs_of_list (map msg_of w.more.items))) = c.messages_nodes.ensures ∙ ap (λ x. stopped (msgs_size (msgs_of_list (map msg_of x)))) c.deref-in-Tuple.ensures.value in
-    rw (ap msg_of e ∙ tuple_is w.first w.second w.more w.span) (omega (arith, a, b, r, c.saturating_add-rest.ensures, c.one_over.ensures))
+    let e : c.args.m.now ≡ Tuple w.parts w.span = w.is in
+    let a : c.message_nodes-in-Tuple.result ≡ stopped (msg_size (msg_of w.parts.value.first)) = c.message_nodes-in-Tuple.ensures ∙ ap (λ v. stopped (msg_size (msg_of v.first))) c.deref-in-Tuple-3.ensures in
+    let b : c.message_nodes.result ≡ stopped (msg_size (msg_of w.parts.value.second)) = c.message_nodes.ensures ∙ ap (λ v. stopped (msg_size (msg_of v.second))) c.deref.ensures in
+    let r : c.messages_nodes.result ≡ stopped (msgs_size (msgs_of_list (map msg_of w.parts.value.more.items))) = c.messages_nodes.ensures ∙ ap (λ x. stopped (msgs_size (msgs_of_list (map msg_of x)))) (c.deref-in-Tuple-2.ensures.value ∙ ap (λ v. v.more.items) c.deref-in-Tuple.ensures) in
+    rw (ap msg_of e ∙ tuple_is w.parts w.span) (omega (arith, a, b, r, c.saturating_add-rest.ensures, c.one_over.ensures))
