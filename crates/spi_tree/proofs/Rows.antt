@@ -7,28 +7,39 @@ use Rattle.spi_lex.specs.declared.token.Mark.TheVariants as mark
 use Rattle.spi_tree.specs.declared.tree.SWord.{SWord}
 use Rattle.spi_tree.specs.declared.tree.SMsg.{SMsg, Row_of-SMsg, end_of-SMsg, more_of-SMsg, items-the_row-SMsg, items_hidden-the_row-SMsg-0}
 use Rattle.spi_tree.specs.declared.tree.SMsg.TheVariants as smsg
-use Rattle.spi_tree.specs.declared.tree.STy.{STy, Row_of-SField, end_of-SField, more_of-SField, items-the_row-SField, items_hidden-the_row-SField-0}
+use Rattle.spi_tree.specs.declared.tree.MsgParts.{MsgParts}
+use Rattle.spi_tree.specs.declared.tree.STy.{STy}
+use Rattle.spi_tree.specs.declared.tree.TyParts.{TyParts, TyParts', out-TyParts, Row_of-SField, end_of-SField, more_of-SField, items-the_row-SField, items_shown-the_row-SField-0}
 use Rattle.spi_tree.specs.declared.tree.STy.TheVariants as sty
 use Rattle.spi_tree.specs.declared.tree.SField.{SField}
 use Rattle.spi_tree.specs.declared.tree.Last.{Last}
 use Rattle.spi_tree.specs.declared.tree.SDeriv.{SDeriv, SDeriv', out-SDeriv, Row_of-SDeriv, end_of-SDeriv, more_of-SDeriv, items-the_row-SDeriv, items_shown-the_row-SDeriv-0, items_hidden-the_row-SDeriv-0}
 use Rattle.spi_tree.specs.Trees as t
-use Rattle.spi_tree.specs.Views.{msg_of, msgs_of_row, ty_of, fields_of_row, last_of, field_of, tree_effect, deriv_of, derivs_of_row}
+use Rattle.spi_tree.specs.Views.{msg_of, msgs_of_row, ty_of, tuple_of, fields_of_row, last_of, field_of, tree_effect, deriv_of, derivs_of_row}
 use Rattle.spi_tree.specs.Listed.{joined, mark_list, msg_list, msgs_list, more_list, field_list, fields_list, deriv_list, derivs_list, word_list, ty_list, last_list, tuple_list, tuple_ty_list, written_list}
 
 row_of_msgs : (n : _) (row : Row_of-SMsg n) → t.msgs_of_list (map msg_of (items-the_row-SMsg n row)) ≡ msgs_of_row row
 row_of_msgs n end_of-SMsg = refl
 row_of_msgs n (more_of-SMsg m rest) = ap (t.more_msgs (msg_of m)) (row_of_msgs _ rest)
 
-pub tuple_is : (a b : Box SMsg) (v : Vec SMsg) (s : Span) → msg_of (smsg.Tuple a b v s) ≡ t.tuple s (msg_of a.value) (msg_of b.value) (t.msgs_of_list (map msg_of v.items))
-tuple_is a b v s = ap (t.tuple s (msg_of a.value) (msg_of b.value)) (sym (row_of_msgs _ (Rattle.spi_tree.specs.declared.tree.SMsg.TheBlock.hidden-the_row-SMsg-0 v)) ∙ ap (λ l. t.msgs_of_list (map msg_of l)) (items_hidden-the_row-SMsg-0 v))
+pub tuple_is : (b : Box MsgParts) (s : Span) → msg_of (smsg.Tuple b s) ≡ t.tuple s (msg_of b.value.first) (msg_of b.value.second) (t.msgs_of_list (map msg_of b.value.more.items))
+tuple_is b s =
+    ap (t.tuple s (msg_of b.value.first) (msg_of b.value.second))
+    (sym (row_of_msgs _ (Rattle.spi_tree.specs.declared.tree.SMsg.TheBlock.hidden-the_row-SMsg-0 b.value.more)) ∙ ap (λ l. t.msgs_of_list (map msg_of l)) (items_hidden-the_row-SMsg-0 b.value.more))
 
 row_of_fields : (n : _) (row : Row_of-SField n) → t.fields_of_list (map field_of (items-the_row-SField n row)) ≡ fields_of_row row
 row_of_fields n end_of-SField = refl
 row_of_fields n (more_of-SField w a rest) = ap (t.more_fields w (ty_of a)) (row_of_fields _ rest)
 
-pub tuple_ty_is : (w : SWord) (a : Box STy) (v : Vec SField) (b : Box Last) (s : Span) → ty_of (sty.Tuple w a v b s) ≡ t.tuple_ty s w (ty_of a.value) (t.fields_of_list (map field_of v.items)) (last_of b.value)
-tuple_ty_is w a v b s = ap (λ fs. t.tuple_ty s w (ty_of a.value) fs (last_of b.value)) (sym (row_of_fields _ (Rattle.spi_tree.specs.declared.tree.Last.TheBlock.hidden-the_row-SField-0 v)) ∙ ap (λ l. t.fields_of_list (map field_of l)) (items_hidden-the_row-SField-0 v))
+-- the parts of a tuple type
+pub parts_are : (s : Span) (p : TyParts) → tuple_of s p ≡ t.tuple_ty s (out-TyParts p).name (ty_of (out-TyParts p).first) (t.fields_of_list (map field_of (out-TyParts p).more.items)) (last_of (out-TyParts p).last)
+unfolding out-TyParts denote.Hole.Carrier.out
+parts_are s (TyParts' w a shape row last) =
+    ap (λ fs. t.tuple_ty s w (ty_of a) fs (last_of last))
+    (sym (row_of_fields _ row) ∙ ap (λ l. t.fields_of_list (map field_of l)) (sym (items_shown-the_row-SField-0 shape row)))
+
+pub tuple_ty_is : (b : Box TyParts) (s : Span) → ty_of (sty.Tuple b s) ≡ t.tuple_ty s (out-TyParts b.value).name (ty_of (out-TyParts b.value).first) (t.fields_of_list (map field_of (out-TyParts b.value).more.items)) (last_of (out-TyParts b.value).last)
+tuple_ty_is b s = parts_are s b.value
 
 pub row_of_derivs : (n : _) (row : Row_of-SDeriv n) → t.derivs_of_list (map deriv_of (items-the_row-SDeriv n row)) ≡ derivs_of_row row
 row_of_derivs n end_of-SDeriv = refl
@@ -50,11 +61,16 @@ pub joined_derivs : (xs : List t.Deriv) → derivs_list (t.derivs_of_list xs) �
 joined_derivs [] = refl
 joined_derivs (x ∷ xs) = ap (λ l. deriv_list x ++ l) (joined_derivs xs)
 
-pub tuple_listed : (a b : Box SMsg) (v : Vec SMsg) (s : Span) → msg_list (msg_of (smsg.Tuple a b v s)) ≡ tuple_list (msg_of a.value) (msg_of b.value) (map msg_of v.items)
-tuple_listed a b v s = ap msg_list (tuple_is a b v s) ∙ ap (λ l. mark_list mark.ParenOpen ++ msg_list (msg_of a.value) ++ mark_list mark.Comma ++ msg_list (msg_of b.value) ++ l ++ mark_list mark.ParenClose) (joined_msgs (map msg_of v.items))
+pub tuple_listed : (b : Box MsgParts) (s : Span) → msg_list (msg_of (smsg.Tuple b s)) ≡ tuple_list (msg_of b.value.first) (msg_of b.value.second) (map msg_of b.value.more.items)
+tuple_listed b s =
+    ap msg_list (tuple_is b s)
+    ∙ ap (λ l. mark_list mark.ParenOpen ++ msg_list (msg_of b.value.first) ++ mark_list mark.Comma ++ msg_list (msg_of b.value.second) ++ l ++ mark_list mark.ParenClose) (joined_msgs (map msg_of b.value.more.items))
 
-pub tuple_ty_listed : (w : SWord) (a : Box STy) (v : Vec SField) (b : Box Last) (s : Span) → ty_list (ty_of (sty.Tuple w a v b s)) ≡ tuple_ty_list w (ty_of a.value) (map field_of v.items) (last_of b.value)
-tuple_ty_listed w a v b s = ap ty_list (tuple_ty_is w a v b s) ∙ ap (λ l. mark_list mark.ParenOpen ++ word_list w ++ mark_list mark.Colon ++ ty_list (ty_of a.value) ++ mark_list mark.Comma ++ l ++ last_list (last_of b.value) ++ mark_list mark.ParenClose) (joined_fields (map field_of v.items))
+pub tuple_ty_listed : (b : Box TyParts) (s : Span) → ty_list (ty_of (sty.Tuple b s)) ≡ tuple_ty_list (out-TyParts b.value).name (ty_of (out-TyParts b.value).first) (map field_of (out-TyParts b.value).more.items) (last_of (out-TyParts b.value).last)
+tuple_ty_listed b s =
+    let p = out-TyParts b.value in
+    ap ty_list (tuple_ty_is b s)
+    ∙ ap (λ l. mark_list mark.ParenOpen ++ word_list p.name ++ mark_list mark.Colon ++ ty_list (ty_of p.first) ++ mark_list mark.Comma ++ l ++ last_list (last_of p.last) ++ mark_list mark.ParenClose) (joined_fields (map field_of p.more.items))
 
 pub deriv_listed : (d : SDeriv) → deriv_list (deriv_of d) ≡ word_list (out-SDeriv d).rule ++ written_list (tree_effect (out-SDeriv d).effect) ++ joined deriv_list (map deriv_of (out-SDeriv d).premises.items)
 unfolding out-SDeriv denote.Hole.Carrier.out
@@ -67,21 +83,21 @@ chain6 o0 o1 o2 o3 o4 o5 o6 a b c d e f h1 h2 h3 h4 h5 h6 = rw (h6, h5, h4, h3, 
 chain8 : (o0 o1 o2 o3 o4 o5 o6 o7 o8 a b c d e f g h : List Kind) → o1 ≡ o0 ++ a → o2 ≡ o1 ++ b → o3 ≡ o2 ++ c → o4 ≡ o3 ++ d → o5 ≡ o4 ++ e → o6 ≡ o5 ++ f → o7 ≡ o6 ++ g → o8 ≡ o7 ++ h → o8 ≡ o0 ++ (a ++ b ++ c ++ d ++ e ++ f ++ g ++ h)
 chain8 o0 o1 o2 o3 o4 o5 o6 o7 o8 a b c d e f g h h1 h2 h3 h4 h5 h6 h7 h8 = rw (h8, h7, h6, h5, h4, h3, h2, h1) (simp append_assoc refl)
 
-pub put_tuple : (m : SMsg) (a b : Box SMsg) (v : Vec SMsg) (s : Span) (a' b' : SMsg) (vs : List SMsg) (o0 o1 o2 o3 o4 o5 o6 : List Kind) → m ≡ smsg.Tuple a b v s
-    → a' ≡ a.value → b' ≡ b.value → vs ≡ v.items
-    → o1 ≡ o0 ++ mark_list mark.ParenOpen → o2 ≡ o1 ++ msg_list (msg_of a') → o3 ≡ o2 ++ mark_list mark.Comma → o4 ≡ o3 ++ msg_list (msg_of b')
-    → o5 ≡ o4 ++ joined more_list (map msg_of vs) → o6 ≡ o5 ++ mark_list mark.ParenClose → o6 ≡ o0 ++ msg_list (msg_of m)
-put_tuple m a b v s a' b' vs o0 o1 o2 o3 o4 o5 o6 is ea eb ev h1 h2 h3 h4 h5 h6 =
-    chain6 o0 o1 o2 o3 o4 o5 o6 (mark_list mark.ParenOpen) (msg_list (msg_of a.value)) (mark_list mark.Comma) (msg_list (msg_of b.value)) (joined more_list (map msg_of v.items)) (mark_list mark.ParenClose) h1 (rw ea at h2) h3 (rw eb at h4) (rw ev at h5) h6
-    ∙ ap (λ l. o0 ++ l) (sym (ap (λ x. msg_list (msg_of x)) is ∙ tuple_listed a b v s))
+pub put_tuple : (m : SMsg) (b : Box MsgParts) (s : Span) (m0 m1 : SMsg) (ms : List SMsg) (o0 o1 o2 o3 o4 o5 o6 : List Kind) → m ≡ smsg.Tuple b s
+    → m0 ≡ b.value.first → m1 ≡ b.value.second → ms ≡ b.value.more.items
+    → o1 ≡ o0 ++ mark_list mark.ParenOpen → o2 ≡ o1 ++ msg_list (msg_of m0) → o3 ≡ o2 ++ mark_list mark.Comma → o4 ≡ o3 ++ msg_list (msg_of m1)
+    → o5 ≡ o4 ++ joined more_list (map msg_of ms) → o6 ≡ o5 ++ mark_list mark.ParenClose → o6 ≡ o0 ++ msg_list (msg_of m)
+put_tuple m b s m0 m1 ms o0 o1 o2 o3 o4 o5 o6 is e0 e1 es h1 h2 h3 h4 h5 h6 =
+    chain6 o0 o1 o2 o3 o4 o5 o6 (mark_list mark.ParenOpen) (msg_list (msg_of b.value.first)) (mark_list mark.Comma) (msg_list (msg_of b.value.second)) (joined more_list (map msg_of b.value.more.items)) (mark_list mark.ParenClose) h1 (rw e0 at h2) h3 (rw e1 at h4) (rw es at h5) h6
+    ∙ ap (λ l. o0 ++ l) (sym (ap (λ x. msg_list (msg_of x)) is ∙ tuple_listed b s))
 
-pub put_tuple_ty : (m : STy) (w : SWord) (a : Box STy) (v : Vec SField) (b : Box Last) (s : Span) (a' : STy) (vs : List SField) (b' : Last) (o0 o1 o2 o3 o4 o5 o6 o7 o8 : List Kind) → m ≡ sty.Tuple w a v b s
-    → a' ≡ a.value → vs ≡ v.items → b' ≡ b.value
-    → o1 ≡ o0 ++ mark_list mark.ParenOpen → o2 ≡ o1 ++ word_list w → o3 ≡ o2 ++ mark_list mark.Colon → o4 ≡ o3 ++ ty_list (ty_of a') → o5 ≡ o4 ++ mark_list mark.Comma
-    → o6 ≡ o5 ++ joined field_list (map field_of vs) → o7 ≡ o6 ++ last_list (last_of b') → o8 ≡ o7 ++ mark_list mark.ParenClose → o8 ≡ o0 ++ ty_list (ty_of m)
-put_tuple_ty m w a v b s a' vs b' o0 o1 o2 o3 o4 o5 o6 o7 o8 is ea ev eb h1 h2 h3 h4 h5 h6 h7 h8 =
-    chain8 o0 o1 o2 o3 o4 o5 o6 o7 o8 (mark_list mark.ParenOpen) (word_list w) (mark_list mark.Colon) (ty_list (ty_of a.value)) (mark_list mark.Comma) (joined field_list (map field_of v.items)) (last_list (last_of b.value)) (mark_list mark.ParenClose) h1 h2 h3 (rw ea at h4) h5 (rw ev at h6) (rw eb at h7) h8
-    ∙ ap (λ l. o0 ++ l) (sym (ap (λ x. ty_list (ty_of x)) is ∙ tuple_ty_listed w a v b s))
+pub put_tuple_ty : (m : STy) (b : Box TyParts) (s : Span) (w : SWord) (a : STy) (fs : List SField) (l : Last) (o0 o1 o2 o3 o4 o5 o6 o7 o8 : List Kind) → m ≡ sty.Tuple b s
+    → w ≡ (out-TyParts b.value).name → a ≡ (out-TyParts b.value).first → fs ≡ (out-TyParts b.value).more.items → l ≡ (out-TyParts b.value).last
+    → o1 ≡ o0 ++ mark_list mark.ParenOpen → o2 ≡ o1 ++ word_list w → o3 ≡ o2 ++ mark_list mark.Colon → o4 ≡ o3 ++ ty_list (ty_of a) → o5 ≡ o4 ++ mark_list mark.Comma
+    → o6 ≡ o5 ++ joined field_list (map field_of fs) → o7 ≡ o6 ++ last_list (last_of l) → o8 ≡ o7 ++ mark_list mark.ParenClose → o8 ≡ o0 ++ ty_list (ty_of m)
+put_tuple_ty m b s w a fs l o0 o1 o2 o3 o4 o5 o6 o7 o8 is ew ea es el h1 h2 h3 h4 h5 h6 h7 h8 =
+    chain8 o0 o1 o2 o3 o4 o5 o6 o7 o8 (mark_list mark.ParenOpen) (word_list w) (mark_list mark.Colon) (ty_list (ty_of a)) (mark_list mark.Comma) (joined field_list (map field_of fs)) (last_list (last_of l)) (mark_list mark.ParenClose) h1 h2 h3 h4 h5 h6 h7 h8
+    ∙ ap (λ x. o0 ++ x) (rw (ew, ea, es, el) (sym (ap (λ x. ty_list (ty_of x)) is ∙ tuple_ty_listed b s)))
 
 pub put_derivation : (d : SDeriv) (ds : List SDeriv) (o0 o1 o2 o3 : List Kind) → ds ≡ (out-SDeriv d).premises.items → o1 ≡ o0 ++ word_list (out-SDeriv d).rule → o2 ≡ o1 ++ written_list (tree_effect (out-SDeriv d).effect)
     → o3 ≡ o2 ++ joined deriv_list (map deriv_of ds) → o3 ≡ o0 ++ deriv_list (deriv_of d)

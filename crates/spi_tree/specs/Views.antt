@@ -1,12 +1,13 @@
 -- What a declared tree is as a tree without places in memory.
 use Rattle.std.specs.Prelude.{List, map, Option, Some, None}
 use Rattle.std.specs.Global.{Vec}
+use Rattle.spi_text.specs.declared.lines.Span.{Span}
 use Rattle.spi_tree.specs.declared.tree.SMsg.{SMsg, Row_of-SMsg, end_of-SMsg, more_of-SMsg}
 use Rattle.spi_tree.specs.declared.tree.SMsg.TheVariants as smsg
 use Rattle.spi_tree.specs.declared.tree.SAtom.{SAtom}
 use Rattle.spi_tree.specs.declared.tree.SAtom.TheVariants as satom
 use Rattle.spi_tree.specs.declared.tree.STy.{STy}
-use Rattle.spi_tree.specs.declared.tree.TyParts.{Row_of-SField, end_of-SField, more_of-SField}
+use Rattle.spi_tree.specs.declared.tree.TyParts.{TyParts, TyParts', Row_of-SField, end_of-SField, more_of-SField}
 use Rattle.spi_tree.specs.declared.tree.STy.TheVariants as sty
 use Rattle.spi_tree.specs.declared.tree.SField.{SField}
 use Rattle.spi_tree.specs.declared.tree.Last.{Last}
@@ -45,11 +46,14 @@ abbrev mutual
   pub ty_of : STy → t.Ty
   ty_of (sty.Un s) = t.un s
   ty_of (sty.Unit s) = t.unit_ty s
-  ty_of (sty.Tuple' p w a shape more last s) = t.tuple_ty s w (ty_of a) (fields_of_row more) (last_of last)
+  ty_of (sty.Tuple' p parts s) = tuple_of s parts
   ty_of (sty.Sum' p a q b s) = t.sum s (ty_of a) (ty_of b)
   ty_of (sty.Key' p a s) = t.key s (ty_of a)
   ty_of (sty.Nonce es s) = t.nonce s (map atom_of es.items)
   ty_of (sty.Abbr w) = t.abbr w.span w
+
+  pub tuple_of : Span → TyParts → t.Ty
+  tuple_of s (TyParts' w a shape more last) = t.tuple_ty s w (ty_of a) (fields_of_row more) (last_of last)
 
   pub fields_of_row : {n : _} → Row_of-SField n → t.Fields
   fields_of_row end_of-SField = t.no_fields

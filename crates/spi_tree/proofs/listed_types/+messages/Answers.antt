@@ -1,4 +1,4 @@
-use Rattle.std.proofs.Common.{arith, ◌<◌, length}
+use Rattle.std.proofs.Common.{arith, ◌<◌, length, ap, ◌∙◌}
 use Rattle.std.proofs.lemmas.Grind.{common_steps}
 use Rattle.spi_tree.specs.Views.{msg_of}
 use Rattle.spi_tree.specs.Listed.{more_list}
@@ -12,4 +12,7 @@ put_messages-loop-message-preserved t c =
     grind (arith, common_steps, joined_more more_list msg_of c.args.messages.now c.loop-message.message-index c.message-item.result lt)
 
 pub put_message-returns-in_ok-put_mark-in-Tuple-3 : goal.put_message-returns-in_ok-put_mark-in-Tuple-3
-put_message-returns-in_ok-put_mark-in-Tuple-3 t c = put_tuple _ _ _ _ _ _ _ _ _ _ _ _ _ _ _ c.in-Tuple.is c.deref.ensures c.deref-in-Tuple.ensures c.deref-in-Tuple-2.ensures.value c.in_ok-put_mark-in-Tuple.ensures c.in_ok-put_message-in-Tuple.ensures c.in_ok-put_mark-in-Tuple-2.ensures c.in_ok-put_message-in-Tuple-2.ensures c.in_ok-put_messages-in-Tuple.ensures c.in_ok-put_mark-in-Tuple-3.ensures
+put_message-returns-in_ok-put_mark-in-Tuple-3 t c =
+    put_tuple _ _ _ _ _ _ _ _ _ _ _ _ _ c.in-Tuple.is
+    (ap (λ p. p.first) c.deref.ensures) (ap (λ p. p.second) c.deref-in-Tuple.ensures) (c.deref-in-Tuple-3.ensures.value ∙ ap (λ p. p.more.items) c.deref-in-Tuple-2.ensures)
+    c.in_ok-put_mark-in-Tuple.ensures c.in_ok-put_message-in-Tuple.ensures c.in_ok-put_mark-in-Tuple-2.ensures c.in_ok-put_message-in-Tuple-2.ensures c.in_ok-put_messages-in-Tuple.ensures c.in_ok-put_mark-in-Tuple-3.ensures
