@@ -9,7 +9,7 @@ use Rattle.spi_tree.specs.declared.tree.SMsg.{SMsg, Row_of-SMsg, end_of-SMsg, mo
 use Rattle.spi_tree.specs.declared.tree.SMsg.TheVariants as smsg
 use Rattle.spi_tree.specs.declared.tree.MsgParts.{MsgParts}
 use Rattle.spi_tree.specs.declared.tree.STy.{STy}
-use Rattle.spi_tree.specs.declared.tree.TyParts.{TyParts, TyParts', out-TyParts, Row_of-SField, end_of-SField, more_of-SField, items-the_row-SField, items_shown-the_row-SField-0}
+use Rattle.spi_tree.specs.declared.tree.TyParts.{TyParts, TyParts', out-TyParts, roll-TyParts, out-roll-TyParts, Row_of-SField, end_of-SField, more_of-SField, items-the_row-SField, items_shown-the_row-SField-0}
 use Rattle.spi_tree.specs.declared.tree.STy.TheVariants as sty
 use Rattle.spi_tree.specs.declared.tree.SField.{SField}
 use Rattle.spi_tree.specs.declared.tree.Last.{Last}
@@ -40,6 +40,13 @@ parts_are s (TyParts' w a shape row last) =
 
 pub tuple_ty_is : (b : Box TyParts) (s : Span) → ty_of (sty.Tuple b s) ≡ t.tuple_ty s (out-TyParts b.value).name (ty_of (out-TyParts b.value).first) (t.fields_of_list (map field_of (out-TyParts b.value).more.items)) (last_of (out-TyParts b.value).last)
 tuple_ty_is b s = parts_are s b.value
+
+-- the same where the box was made of these parts
+pub tuple_ty_made : (b : Box TyParts) (s : Span) (w : SWord) (a : STy) (v : Vec SField) (l : Last) → b.value ≡ roll-TyParts (record { name = w; first = a; more = v; last = l })
+    → ty_of (sty.Tuple b s) ≡ t.tuple_ty s w (ty_of a) (t.fields_of_list (map field_of v.items)) (last_of l)
+tuple_ty_made b s w a v l e =
+    tuple_ty_is b s
+    ∙ ap (λ p. t.tuple_ty s p.name (ty_of p.first) (t.fields_of_list (map field_of p.more.items)) (last_of p.last)) (ap out-TyParts e ∙ out-roll-TyParts (record { name = w; first = a; more = v; last = l }))
 
 pub row_of_derivs : (n : _) (row : Row_of-SDeriv n) → t.derivs_of_list (map deriv_of (items-the_row-SDeriv n row)) ≡ derivs_of_row row
 row_of_derivs n end_of-SDeriv = refl

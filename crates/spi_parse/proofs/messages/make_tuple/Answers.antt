@@ -1,5 +1,6 @@
+use Rattle.std.proofs.Common.{rules, ◌∙◌}
 use Rattle.spi_tree.proofs.Rows.{tuple_is}
 use Rattle.spi_parse.proofs.messages.make_tuple.Goals as goal
 
 pub returns : goal.returns
-returns c = tuple_is c.args.first c.args.second c.args.more c.args.span
+returns c = tuple_is c.in_ok-new.field-0 c.args.span ∙ search rules

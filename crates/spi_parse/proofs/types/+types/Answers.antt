@@ -33,6 +33,9 @@ read_type-returns-in_err-fits-in-Mark-ParenOpen t c = rw read_is_step (grind (ar
 pub read_type-returns-in_ok-fits-in-Reserved-Key : goal.read_type-returns-in_ok-fits-in-Reserved-Key
 read_type-returns-in_ok-fits-in-Reserved-Key t c = rw read_is_step (grind (arith, common_steps))
 
+pub read_type-returns-in_ok-fits-in-Mark-ParenOpen : goal.read_type-returns-in_ok-fits-in-Mark-ParenOpen
+read_type-returns-in_ok-fits-in-Mark-ParenOpen t c = rw read_is_step (grind (arith, common_steps))
+
 pub read_type-returns-in_default : goal.read_type-returns-in_default
 read_type-returns-in_default t c = rw read_is_step (grind (arith, common_steps))
 
@@ -55,4 +58,4 @@ read_fields-returns-in_err-item t c =
 pub read_fields-returns-in-Last : goal.read_fields-returns-in-Last
 read_fields-returns-in-Last t c =
     let e = rw c.in-Last.is at c.in_ok-item.ensures in
-    rw c.in_ok-boxed_last-in-Last.ensures (is_done (read limited (fields_item c.args.later c.args.nesting)) (read limited (fields c.args.later c.args.nesting)) (fields_law c.args.later c.args.nesting) (map field_of c.items.more.items) (last_of c.in-Last.last) (state_of c.items.at) (state_of c.in_ok-item.after) _ e c.items.invariant)
+    is_done (read limited (fields_item c.args.later c.args.nesting)) (read limited (fields c.args.later c.args.nesting)) (fields_law c.args.later c.args.nesting) (map field_of c.items.more.items) (last_of c.in-Last.last) (state_of c.items.at) (state_of c.in_ok-item.after) _ e c.items.invariant
