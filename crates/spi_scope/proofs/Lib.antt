@@ -1,4 +1,5 @@
 pub mod Tables
+pub mod Spellings
 pub mod Trails
 pub mod Nesting
 pub mod Tuples

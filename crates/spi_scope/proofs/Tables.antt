@@ -1,22 +1,19 @@
 -- The table of names after a name comes into scope or goes out of it.
-use Rattle.std.proofs.Common.{◌≡◌, ℕ, zero, suc, drop, ◌-◌, ◌+◌, ◌^◌, ◌<◌, List, [], ◌∷◌, ◌++◌, length, map, reverse, Bool, true, false, cond, refl, sym, ap, ◌∙◌, subst, arith}
+use Rattle.std.proofs.Common.{◌≡◌, ℕ, zero, suc, drop, ◌-◌, ◌+◌, ◌^◌, ◌<◌, List, [], ◌∷◌, ◌++◌, length, reverse, Bool, true, false, cond, refl, sym, ap, ◌∙◌, subst, arith}
 use Rattle.std.specs.Prelude.{Option, Some, None, slice_get, IfSome, Result, Ok, Err, OnOk, OnErr}
 use Rattle.std.specs.declared.alloc.AllocError.{AllocError}
 use Rattle.spi_scope.specs.Chains.{chain_at, found_names}
 use Rattle.std.specs.Str.{bytes_eq}
 use Rattle.std.proofs.lemmas.List.{reverse-append, reverse-reverse, length-reverse, length-map, length-append}
 use Rattle.std.proofs.lemmas.Slice.Eq.{bytes_eq-Decides}
-use Rattle.std.proofs.lemmas.Map.Text.{hash_map_updates_str}
 use Rattle.std.proofs.lemmas.Option.{slice_get_within, none-some}
 use Rattle.std.specs.Option.{option_flatten}
 use Rattle.std.specs.List.{position_or_len}
 use Rattle.std.specs.Map.{keys_of}
-use Rattle.std.specs.Cmp.{IsEquivalence}
 use Rattle.std.specs.Cmp.Lexicographic.{nat_list_eq_equiv}
-use Rattle.indexmap.specs.IndexMap.{IndexMap, get_by, UpdatesBy, IsUnique, insert_entry, insert_index, index_map_len, with_value_at}
+use Rattle.indexmap.specs.IndexMap.{IndexMap, get, Updates, IsUnique, insert_entry, insert_index, index_map_len, with_value_at}
 use Rattle.indexmap.proofs.CallerLemmas.{keys-with_value_at, updates-with_value_at}
 use Rattle.spi_term.proofs.Lists.{get_append, some_is}
-use denote.Ref.{Bor}
 use Rattle.spi_scope.specs.Scope.{Word, Names, number_of, outer_names}
 use Rattle.spi_scope.specs.declared.names.Held.{Held}
 use Rattle.spi_scope.specs.Table.{spellings, slots, Hide, HaveSlots, KeepsTable, Begin, top, IsPushed, IsPopped}
@@ -27,74 +24,64 @@ reverse_push es e = reverse-append es (e ∷ [])
 pub many_names : (es : List Held) → length (spellings (reverse es)) ≡ length es
 many_names es = length-map (reverse es) (λ e. e.word.now) ∙ length-reverse es
 
-abbrev pub same_word : Bor (List ℕ) → Bor (List ℕ) → Bool
-same_word x y = bytes_eq x.now y.now
-
 abbrev pub Table : Type 0 → Type 0
-Table S = IndexMap (Bor (List ℕ)) (Option ℕ) S
+Table S = IndexMap Word (Option ℕ) S
 
 abbrev pub TableChanges : {S : Type 0} → Table S → Table S → Word → Option ℕ → Type 0
-TableChanges m n x v = UpdatesBy same_word (λ k. bytes_eq x k.now) m n (Some v)
-
-same_word_equiv : IsEquivalence same_word
-same_word_equiv = record {
-  refl = λ x. nat_list_eq_equiv.refl x.now;
-  symm = λ x y. nat_list_eq_equiv.symm x.now y.now;
-  congr = λ x y z. nat_list_eq_equiv.congr x.now y.now z.now;
-}
+TableChanges m n x v = Updates bytes_eq m n x (Some v)
 
 flat_cond : (b : Bool) (v : Option ℕ) (o : Option (Option ℕ)) → option_flatten (cond b (Some v) o) ≡ cond b v (option_flatten o)
 flat_cond true v o = refl
 flat_cond false v o = refl
 
-changed : {S : Type 0} (m n : Table S) (x : Word) (v : Option ℕ) → TableChanges m n x v → (w : Word) → option_flatten (get_by (λ k. bytes_eq w k.now) n) ≡ cond (bytes_eq x w) v (option_flatten (get_by (λ k. bytes_eq w k.now) m))
-changed m n x v u w = ap option_flatten (hash_map_updates_str x m n (Some v) u w) ∙ flat_cond (bytes_eq x w) v _
+changed : {S : Type 0} (m n : Table S) (x : Word) (v : Option ℕ) → TableChanges m n x v → (w : Word) → option_flatten (get bytes_eq n w) ≡ cond (bytes_eq x w) v (option_flatten (get bytes_eq m w))
+changed m n x v u w = ap option_flatten (u.0 w) ∙ flat_cond (bytes_eq x w) v _
 
 abbrev Entries : Type 0
-Entries = List (Bor (List ℕ) × Option ℕ)
+Entries = List (Word × Option ℕ)
 
 abbrev words : Entries → Names
-words es = map (λ k. k.now) (keys_of es)
+words es = keys_of es
 
 -- a spelling keeps its slot when another is put into the table
-slot_stays : (es : Entries) (k : Bor (List ℕ)) (v : Option ℕ) (i : ℕ) (w : Word) → slice_get (words es) i ≡ Some w → slice_get (words (insert_entry same_word es k v)) i ≡ Some w
+slot_stays : (es : Entries) (k : Word) (v : Option ℕ) (i : ℕ) (w : Word) → slice_get (words es) i ≡ Some w → slice_get (words (insert_entry bytes_eq es k v)) i ≡ Some w
 slot_stays [] k v i w h = absurd (none-some w h)
-slot_stays (e ∷ es) k v zero w h = by (bytes_eq k.now e.0.now)
+slot_stays (e ∷ es) k v zero w h = by (bytes_eq k e.0)
   where
-    by : (b : Bool) → slice_get (words (cond b ((e.0, v) ∷ es) (e ∷ insert_entry same_word es k v))) zero ≡ Some w
+    by : (b : Bool) → slice_get (words (cond b ((e.0, v) ∷ es) (e ∷ insert_entry bytes_eq es k v))) zero ≡ Some w
     by true = h
     by false = h
-slot_stays (e ∷ es) k v (suc i) w h = by (bytes_eq k.now e.0.now) (slot_stays es k v i w h)
+slot_stays (e ∷ es) k v (suc i) w h = by (bytes_eq k e.0) (slot_stays es k v i w h)
   where
-    by : (b : Bool) → slice_get (words (insert_entry same_word es k v)) i ≡ Some w → slice_get (words (cond b ((e.0, v) ∷ es) (e ∷ insert_entry same_word es k v))) (suc i) ≡ Some w
+    by : (b : Bool) → slice_get (words (insert_entry bytes_eq es k v)) i ≡ Some w → slice_get (words (cond b ((e.0, v) ∷ es) (e ∷ insert_entry bytes_eq es k v))) (suc i) ≡ Some w
     by true there = h
     by false there = there
 
 -- and that which is put there has its slot
-slot_made : (es : Entries) (k : Bor (List ℕ)) (v : Option ℕ) → slice_get (words (insert_entry same_word es k v)) (position_or_len (same_word k) (keys_of es)) ≡ Some k.now
+slot_made : (es : Entries) (k : Word) (v : Option ℕ) → slice_get (words (insert_entry bytes_eq es k v)) (position_or_len (bytes_eq k) (keys_of es)) ≡ Some k
 slot_made [] k v = refl
-slot_made (e ∷ es) k v = by (bytes_eq k.now e.0.now) refl (slot_made es k v)
+slot_made (e ∷ es) k v = by (bytes_eq k e.0) refl (slot_made es k v)
   where
-    next : 1 + position_or_len (same_word k) (keys_of es) ≡ suc (position_or_len (same_word k) (keys_of es))
+    next : 1 + position_or_len (bytes_eq k) (keys_of es) ≡ suc (position_or_len (bytes_eq k) (keys_of es))
     next = omega arith
 
-    by : (b : Bool) → bytes_eq k.now e.0.now ≡ b → slice_get (words (insert_entry same_word es k v)) (position_or_len (same_word k) (keys_of es)) ≡ Some k.now
-        → slice_get (words (insert_entry same_word (e ∷ es) k v)) (position_or_len (same_word k) (keys_of (e ∷ es))) ≡ Some k.now
-    by true q there = rw q (ap Some (sym ((bytes_eq-Decides k.now e.0.now).0 q)))
-    by false q there = rw q (ap (slice_get (e.0.now ∷ words (insert_entry same_word es k v))) next ∙ there)
+    by : (b : Bool) → bytes_eq k e.0 ≡ b → slice_get (words (insert_entry bytes_eq es k v)) (position_or_len (bytes_eq k) (keys_of es)) ≡ Some k
+        → slice_get (words (insert_entry bytes_eq (e ∷ es) k v)) (position_or_len (bytes_eq k) (keys_of (e ∷ es))) ≡ Some k
+    by true q there = rw q (ap Some (sym ((bytes_eq-Decides k e.0).0 q)))
+    by false q there = rw q (ap (slice_get (e.0 ∷ words (insert_entry bytes_eq es k v))) next ∙ there)
 
-slots_stay : (old : Entries) (k : Bor (List ℕ)) (v : Option ℕ) (es : List Held) → HaveSlots (words old) es → HaveSlots (words (insert_entry same_word old k v)) es
+slots_stay : (old : Entries) (k : Word) (v : Option ℕ) (es : List Held) → HaveSlots (words old) es → HaveSlots (words (insert_entry bytes_eq old k v)) es
 slots_stay old k v [] h = tt
 slots_stay old k v (e ∷ es) h = (slot_stays old k v e.slot e.word.now h.0, slots_stay old k v es h.1)
 
 -- the entry with a spelling's slot
-stored_at : (es : Entries) (i : ℕ) (w : Word) → slice_get (words es) i ≡ Some w → (e : Bor (List ℕ) × Option ℕ) × (slice_get es i ≡ Some e) × (e.0.now ≡ w)
+stored_at : (es : Entries) (i : ℕ) (w : Word) → slice_get (words es) i ≡ Some w → (e : Word × Option ℕ) × (slice_get es i ≡ Some e) × (e.0 ≡ w)
 stored_at [] i w h = absurd (none-some w h)
 stored_at (e ∷ es) zero w h = (e, refl, some_is h)
 stored_at (e ∷ es) (suc i) w h = stored_at es i w h
 
-pub entered : {S : Type 0} (m n : Table S) (es : List Held) (e : Held) (number : ℕ) → KeepsTable m es → TableChanges m n e.word.now (Some number) → n.entries ≡ insert_entry same_word m.entries e.word (Some number) → e.slot ≡ insert_index same_word m e.word → e.before ≡ number_of (spellings (reverse es)) e.word.now → number ≡ length es → length es + 1 < 2 ^ 32 → KeepsTable n (es ++ e ∷ [])
-entered m n es e number k u i s h p few = record {
+entered_word : {S : Type 0} (m n : Table S) (es : List Held) (e : Held) (number : ℕ) → KeepsTable m es → TableChanges m n e.word.now (Some number) → n.entries ≡ insert_entry bytes_eq m.entries e.word.now (Some number) → e.slot ≡ insert_index bytes_eq m e.word.now → e.before ≡ number_of (spellings (reverse es)) e.word.now → number ≡ length es → length es + 1 < 2 ^ 32 → KeepsTable n (es ++ e ∷ [])
+entered_word m n es e number k u i s h p few = record {
   finds = λ w.
       changed m n e.word.now (Some number) u w
       ∙ ap (λ a. cond (bytes_eq e.word.now w) (Some number) a) (k.finds w)
@@ -103,9 +90,15 @@ entered m n es e number k u i s h p few = record {
   hide = subst Hide (sym (reverse_push es e)) (h, k.hide);
   have_slots = subst (HaveSlots (slots n)) (sym (reverse_push es e))
       (subst (λ (l : Entries). HaveSlots (words l) (e ∷ reverse es)) (sym i)
-      (ap (slice_get (words (insert_entry same_word m.entries e.word (Some number)))) s ∙ slot_made m.entries e.word (Some number), slots_stay m.entries e.word (Some number) (reverse es) k.have_slots));
+      (ap (slice_get (words (insert_entry bytes_eq m.entries e.word.now (Some number)))) s ∙ slot_made m.entries e.word.now (Some number), slots_stay m.entries e.word.now (Some number) (reverse es) k.have_slots));
   few = omega (arith, length-append es (e ∷ []));
 }
+
+-- the same where the key is known to be the name's spelling
+pub entered : {S : Type 0} (m n : Table S) (es : List Held) (e : Held) (number : ℕ) (w : Word) → w ≡ e.word.now → KeepsTable m es → TableChanges m n w (Some number) → n.entries ≡ insert_entry bytes_eq m.entries w (Some number) → e.slot ≡ insert_index bytes_eq m w → e.before ≡ number_of (spellings (reverse es)) w → number ≡ length es → length es + 1 < 2 ^ 32 → KeepsTable n (es ++ e ∷ [])
+entered m n es e number w is k u i s h p few =
+    let all = subst (λ (w : Word). TableChanges m n w (Some number) × (n.entries ≡ insert_entry bytes_eq m.entries w (Some number)) × (e.slot ≡ insert_index bytes_eq m w) × (e.before ≡ number_of (spellings (reverse es)) w)) is (u, i, s, h) in
+    entered_word m n es e number k all.0 all.1 all.2 all.3 p few
 
 hidden_is : {S : Type 0} (m : Table S) (es : List Held) (e : Held) → KeepsTable m (es ++ e ∷ []) → e.before ≡ number_of (spellings (reverse es)) e.word.now
 hidden_is m es e k = (subst Hide (reverse_push es e) k.hide).0
@@ -116,20 +109,20 @@ its_slot m es e k = (subst (HaveSlots (slots m)) (reverse_push es e) k.have_slot
 pub slot_within : {S : Type 0} (m : Table S) (es : List Held) (e : Held) → KeepsTable m (es ++ e ∷ []) → e.slot < index_map_len m
 slot_within m es e k = let a = stored_at m.entries e.slot e.word.now (its_slot m es e k) in slice_get_within m.entries e.slot a.0 a.1
 
-written : {S : Type 0} (m : Table S) (es : List Held) (e : Held) → IsUnique same_word m → KeepsTable m (es ++ e ∷ []) → TableChanges m (with_value_at m e.slot e.before) e.word.now e.before
+written : {S : Type 0} (m : Table S) (es : List Held) (e : Held) → IsUnique bytes_eq m → KeepsTable m (es ++ e ∷ []) → TableChanges m (with_value_at m e.slot e.before) e.word.now e.before
 written m es e unique k =
     let a = stored_at m.entries e.slot e.word.now (its_slot m es e k) in
-    subst (λ (w : Word). TableChanges m (with_value_at m e.slot e.before) w e.before) a.2 (updates-with_value_at m e.slot e.before same_word_equiv unique a.0.0 a.0.1 a.1)
+    subst (λ (w : Word). TableChanges m (with_value_at m e.slot e.before) w e.before) a.2 (updates-with_value_at m e.slot e.before nat_list_eq_equiv unique a.0.0 a.0.1 a.1)
 
-pub left : {S : Type 0} (m : Table S) (es : List Held) (e : Held) → IsUnique same_word m → KeepsTable m (es ++ e ∷ []) → KeepsTable (with_value_at m e.slot e.before) es
+pub left : {S : Type 0} (m : Table S) (es : List Held) (e : Held) → IsUnique bytes_eq m → KeepsTable m (es ++ e ∷ []) → KeepsTable (with_value_at m e.slot e.before) es
 left m es e unique k = record {
   finds = λ w. changed m (with_value_at m e.slot e.before) e.word.now e.before (written m es e unique k) w ∙ ap (λ a. cond (bytes_eq e.word.now w) e.before a) (before w) ∙ shown w (bytes_eq e.word.now w) refl;
   hide = (subst Hide (reverse_push es e) k.hide).1;
-  have_slots = subst (λ (l : List (Bor (List ℕ))). HaveSlots (map (λ k. k.now) l) (reverse es)) (sym (keys-with_value_at m e.slot e.before)) (subst (HaveSlots (slots m)) (reverse_push es e) k.have_slots).1;
+  have_slots = subst (λ (l : Names). HaveSlots l (reverse es)) (sym (keys-with_value_at m e.slot e.before)) (subst (HaveSlots (slots m)) (reverse_push es e) k.have_slots).1;
   few = omega (arith, k.few, length-append es (e ∷ []));
 }
   where
-    before : (w : Word) → option_flatten (get_by (λ k. bytes_eq w k.now) m) ≡ cond (bytes_eq e.word.now w) (Some (length (spellings (reverse es)))) (number_of (spellings (reverse es)) w)
+    before : (w : Word) → option_flatten (get bytes_eq m w) ≡ cond (bytes_eq e.word.now w) (Some (length (spellings (reverse es)))) (number_of (spellings (reverse es)) w)
     before w = k.finds w ∙ ap (λ r. number_of (spellings r) w) (reverse_push es e)
 
     shown : (w : Word) (b : Bool) → bytes_eq e.word.now w ≡ b → cond (bytes_eq e.word.now w) e.before (cond (bytes_eq e.word.now w) (Some (length (spellings (reverse es)))) (number_of (spellings (reverse es)) w)) ≡ number_of (spellings (reverse es)) w

@@ -17,3 +17,4 @@ pub mod Files
 pub mod Places
 pub mod Scan
 pub mod Standing
+pub mod Spelling

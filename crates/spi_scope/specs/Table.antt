@@ -4,8 +4,7 @@ use Rattle.std.specs.Prelude.{◌≡◌, ℕ, ◌^◌, ◌<◌, List, [], ◌∷
 use Rattle.std.specs.Str.{bytes_eq}
 use Rattle.std.specs.Coded.{Coded, coded_ℕ, coded_list, coded×, code_by}
 use Rattle.std.specs.Option.{option_flatten}
-use Rattle.indexmap.specs.IndexMap.{IndexMap, get_by, keys}
-use denote.Ref.{Bor}
+use Rattle.indexmap.specs.IndexMap.{IndexMap, get, keys}
 use Rattle.spi_scope.specs.Scope.{Word, Names, number_of}
 use Rattle.spi_scope.specs.declared.names.Held.{Held}
 
@@ -40,16 +39,16 @@ Hide [] = ⊤
 Hide (e ∷ es) = (e.before ≡ number_of (spellings es) e.word.now) × Hide es
 
 -- the spellings in the table, each in its slot
-abbrev pub slots : {V S : Type 0} → IndexMap (Bor (List ℕ)) V S → Names
-slots m = map (λ k. k.now) (keys m)
+abbrev pub slots : {V S : Type 0} → IndexMap Word V S → Names
+slots m = keys m
 
 -- each name has the slot of its spelling
 abbrev pub HaveSlots : Names → List Held → Type 0
 HaveSlots ws [] = ⊤
 HaveSlots ws (e ∷ es) = (slice_get ws e.slot ≡ Some e.word.now) × HaveSlots ws es
 
-pub record KeepsTable {S : Type 0} (m : IndexMap (Bor (List ℕ)) (Option ℕ) S) (es : List Held) : Type 0 where
-  pub finds : (w : Word) → option_flatten (get_by (λ k. bytes_eq w k.now) m) ≡ number_of (spellings (reverse es)) w
+pub record KeepsTable {S : Type 0} (m : IndexMap Word (Option ℕ) S) (es : List Held) : Type 0 where
+  pub finds : (w : Word) → option_flatten (get bytes_eq m w) ≡ number_of (spellings (reverse es)) w
   pub hide : Hide (reverse es)
   pub have_slots : HaveSlots (slots m) (reverse es)
   pub few : length es < 2 ^ 32

@@ -17,6 +17,7 @@ mod resolution;
 mod room;
 mod schedules;
 mod scope;
+mod spelling;
 mod trail;
 mod types;
 

@@ -8,6 +8,7 @@ ghost use Rattle.spi_scope.specs.Scope.{number_of, outer_names};
 ghost use Rattle.spi_scope.specs.Table.{KeepsTable, IsPushed, IsPopped, top, with_names, noting};
 
 use crate::NoMemory;
+use crate::spelling::Spelling;
 use crate::trail::{Scopes, Trail};
 use indexmap::IndexMap;
 use spi_text::Text;
@@ -35,10 +36,14 @@ fn top_chain(hidden: &[Held]) -> u32
 }
 
 /// The spelling in this slot has another number, or none.
-fn set_number<'t>(innermost: &mut IndexMap<&'t str, Option<u32>>, slot: usize, number: Option<u32>)
+fn set_number<'t>(
+    innermost: &mut IndexMap<Spelling<'t>, Option<u32>>,
+    slot: usize,
+    number: Option<u32>,
+)
     requires { slot < index_map_len innermost.old }
     ensures after { innermost.new ≡ with_value_at innermost.old slot number }
-    ensures unique { IsUnique (λ x y. bytes_eq x.now y.now) innermost.old }
+    ensures unique { IsUnique bytes_eq innermost.old }
 {
     let (_, stored) = innermost.pair_mut(slot);
     *stored = number;
@@ -46,7 +51,7 @@ fn set_number<'t>(innermost: &mut IndexMap<&'t str, Option<u32>>, slot: usize, n
 
 /// One more name in scope.
 fn enter<'t>(
-    innermost: &mut IndexMap<&'t str, Option<u32>>,
+    innermost: &mut IndexMap<Spelling<'t>, Option<u32>>,
     hidden: &mut Vec<Held<'t>>,
     word: &'t str,
     chain: u32,
@@ -58,7 +63,7 @@ fn enter<'t>(
     ensures err { OnErr result (hidden.new.items ≡ hidden.old.items) }
 {
     let number = hidden.len() as u32;
-    let (slot, old) = innermost.insert_full(word, Some(number))?;
+    let (slot, old) = innermost.insert_full(Spelling::of(word), Some(number))?;
     let before = old.flatten();
     match hidden.push(Held {
         word,
@@ -75,7 +80,7 @@ fn enter<'t>(
 }
 
 /// The innermost name goes out of scope.
-fn leave<'t>(innermost: &mut IndexMap<&'t str, Option<u32>>, hidden: &mut Vec<Held<'t>>)
+fn leave<'t>(innermost: &mut IndexMap<Spelling<'t>, Option<u32>>, hidden: &mut Vec<Held<'t>>)
     requires keeps { KeepsTable innermost.old hidden.old.items }
     requires some { 0 < length hidden.old.items }
     ensures keeps { KeepsTable innermost.new hidden.new.items }
@@ -90,7 +95,7 @@ fn leave<'t>(innermost: &mut IndexMap<&'t str, Option<u32>>, hidden: &mut Vec<He
 /// node that was noted.
 #[derive(Drop)]
 pub struct Names<'t> {
-    innermost: IndexMap<&'t str, Option<u32>>,
+    innermost: IndexMap<Spelling<'t>, Option<u32>>,
     hidden: Vec<Held<'t>>,
     trail: Trail<'t>,
 }
@@ -134,7 +139,7 @@ impl<'t> Names<'t> {
         ensures number { result ≡ number_of self.now.names word.now }
         ensures below { IfSome result (λ n. n < length self.now.names) }
     {
-        self.innermost.get(&word).copied().flatten()
+        self.innermost.get(&Spelling::of(word)).copied().flatten()
     }
 
     /// One more name in scope. There is no room for 2 ^ 32 names, and so many don't come: each has a token of its own, and a
