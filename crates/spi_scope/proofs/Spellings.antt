@@ -4,7 +4,8 @@ use Rattle.std.proofs.lemmas.Bool.{leb-true}
 use Rattle.std.proofs.lemmas.Slice.Eq.{bytes_eq-Decides}
 use Rattle.std.specs.Cmp.{first_so, second_so}
 use Rattle.std.specs.Str.{bytes_eq}
-use Rattle.spi_scope.specs.Spelling.{spelled, spelled_after, AreBytes}
+use Rattle.std.specs.Prelude.{if◌then◌else◌}
+use Rattle.spi_scope.specs.Spelling.{spelled, spelled_after, code_of, AreBytes}
 
 spelled_last : (n : ℕ) (xs : List ℕ) (x : ℕ) → spelled_after n (xs ++ x ∷ []) ≡ spelled_after ((n * 257 + x) % 2 ^ 64) xs
 spelled_last n [] x = refl
@@ -73,9 +74,14 @@ tells (suc n) (x ∷ xs) (y ∷ ys) m k l a b e =
     ap (λ z. z ∷ xs) first
     ∙ ap (λ zs. y ∷ zs) (tells n xs ys (omega (arith, m)) (omega (arith, k)) (omega (arith, l)) (later_bytes x xs a) (later_bytes y ys b) rest)
 
+short_code : (xs : List ℕ) → leb (length xs) 7 ≡ true → code_of xs ≡ spelled xs
+short_code xs p = ap (λ b. if b then spelled xs else 0) p
+
 -- words of at most seven bytes with one number are one word
-pub short_same : (xs ys : List ℕ) → (leb (length xs) 7 && leb (length ys) 7) ≡ true → AreBytes xs → AreBytes ys → spelled xs ≡ spelled ys → bytes_eq xs ys ≡ true
+pub short_same : (xs ys : List ℕ) → (leb (length xs) 7 && leb (length ys) 7) ≡ true → (length xs ≤ 7 → AreBytes xs) → (length ys ≤ 7 → AreBytes ys) → code_of xs ≡ code_of ys → bytes_eq xs ys ≡ true
 short_same xs ys s a b e =
-    let k = leb-true (length xs) 7 (first_so (leb (length xs) 7) (leb (length ys) 7) s) in
-    let l = leb-true (length ys) 7 (second_so (leb (length xs) 7) (leb (length ys) 7) s) in
-    (bytes_eq-Decides xs ys).1 (tells 7 xs ys (omega arith) k l a b e)
+    let p = first_so (leb (length xs) 7) (leb (length ys) 7) s in
+    let q = second_so (leb (length xs) 7) (leb (length ys) 7) s in
+    let k = leb-true (length xs) 7 p in
+    let l = leb-true (length ys) 7 q in
+    (bytes_eq-Decides xs ys).1 (tells 7 xs ys (omega arith) k l (a k) (b l) (sym (short_code xs p) ∙ e ∙ short_code ys q))

@@ -1,10 +1,13 @@
 //! The spelling of a name as a key: with a number by which it is hashed.
 
-ghost use Rattle.std.specs.Prelude.{◌≡◌};
+ghost use Rattle.std.specs.Prelude.{◌≡◌, ◌≤◌, ◌↔◌, IsTrue, length};
 ghost use Rattle.spi_scope.specs.Spelling.{spelled, AreBytes};
 
 use std::hash::{Hash, Hasher};
 use std::marker::Model;
+
+/// How many bytes a word may have that is told by its number.
+const SHORT: usize = 7;
 
 /// The number that the bytes spell.
 #[inline]
@@ -21,8 +24,8 @@ fn number_spelled(word: &str) -> u64
     code
 }
 
-/// A spelling, with the number that its bytes spell, by which it is hashed and most others are told from it. Of words
-/// of at most seven bytes each has a number of its own.
+/// A spelling. One of at most seven bytes has a number of its own, by which it is hashed and told from others; for a longer
+/// one the number is 0, and its bytes are looked at.
 #[derive(Drop)]
 pub struct Spelling<'t> {
     code: u64,
@@ -30,9 +33,9 @@ pub struct Spelling<'t> {
 }
 
 impl<'t> Model for Spelling<'t> {
-    ghost use Rattle.std.specs.Prelude.{◌≡◌, ℕ, List};
+    ghost use Rattle.std.specs.Prelude.{◌≡◌, ◌≤◌, ℕ, List, length};
     ghost use Rattle.std.specs.Coded.{coded_ℕ, coded_list};
-    ghost use Rattle.spi_scope.specs.Spelling.{spelled, AreBytes};
+    ghost use Rattle.spi_scope.specs.Spelling.{code_of, AreBytes};
 
     ghost Value = { List ℕ };
 
@@ -40,7 +43,7 @@ impl<'t> Model for Spelling<'t> {
 
     ghost view = { λ s. s.word.now };
 
-    ghost invariant = { λ s. (s.code ≡ spelled s.word.now) × AreBytes s.word.now };
+    ghost invariant = { λ s. (s.code ≡ code_of s.word.now) × (length s.word.now ≤ 7 → AreBytes s.word.now) };
 }
 
 impl<'t> Spelling<'t> {
@@ -49,10 +52,12 @@ impl<'t> Spelling<'t> {
     pub fn of(word: &'t str) -> Self
         ensures { result ≡ word.now }
     {
-        Spelling {
-            code: number_spelled(word),
-            word,
-        }
+        let code = if word.len() <= SHORT {
+            number_spelled(word)
+        } else {
+            0
+        };
+        Spelling { code, word }
     }
 }
 
@@ -67,7 +72,7 @@ impl PartialEq for Spelling<'_> {
 
     #[inline(always)]
     fn eq(&self, other: &Self) -> bool {
-        let short = (self.word.len() <= 7) & (other.word.len() <= 7);
+        let short = (self.word.len() <= SHORT) & (other.word.len() <= SHORT);
         self.code == other.code && (short || self.word == other.word)
     }
 }
@@ -82,14 +87,20 @@ impl Hash for Spelling<'_> {
     ghost use Rattle.std.proofs.Common.{ap};
     ghost use Rattle.std.specs.Hash as fed;
     ghost use Rattle.std.specs.Cmp.Lexicographic.{bytes_decides};
+    ghost use Rattle.std.specs.Prelude.{if◌then◌else◌, length, leb};
     ghost use Rattle.spi_scope.specs.Spelling.{spelled};
 
-    ghost hash_input = { λ s. fed.u64 (spelled s) };
+    ghost hash_input = { λ s. if leb (length s) 7 then fed.u64 (spelled s) else fed.str s };
 
-    ghost respects_eq = { λ x y h. ap (λ s. fed.u64 (spelled s)) ((bytes_decides x y).0 h) };
+    ghost respects_eq = { λ x y h.
+        ap (λ s. if leb (length s) 7 then fed.u64 (spelled s) else fed.str s) ((bytes_decides x y).0 h) };
 
     #[inline(always)]
     fn hash<H: Hasher>(&self, state: &mut H) {
-        self.code.hash(state);
+        if self.word.len() <= SHORT {
+            self.code.hash(state);
+        } else {
+            self.word.hash(state);
+        }
     }
 }
