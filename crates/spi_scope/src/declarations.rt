@@ -111,6 +111,7 @@ fn declare<'t>(alloc: Global, scope: &mut Scope<'t>, decl: &'t Decl) -> Result<(
 {
     match decl {
         Decl::Free { first, more, .. } => {
+            scope.held.reserve(more.len().saturating_add(1))?;
             declare_name(alloc, scope, first)?;
             declare_more(alloc, scope, more)
         }

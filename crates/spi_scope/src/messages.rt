@@ -155,7 +155,9 @@ fn read_tuple(
             let whole = Msg::paired(alloc, first, rest)?;
             Ok((whole, total))
         }
-        _ => unreachable!(),
+        SMsg::Name { .. } | SMsg::Unit { .. } | SMsg::Num { .. } => unreachable!(),
+        SMsg::Inl { .. } | SMsg::Inr { .. } => unreachable!(),
+        SMsg::Enc { .. } | SMsg::Hash { .. } => unreachable!(),
     }
 }
 
@@ -231,7 +233,9 @@ fn read_enc(
             let whole = Msg::sealed(alloc, body, key)?;
             Ok((whole, total))
         }
-        _ => unreachable!(),
+        SMsg::Name { .. } | SMsg::Unit { .. } | SMsg::Num { .. } => unreachable!(),
+        SMsg::Inl { .. } | SMsg::Inr { .. } => unreachable!(),
+        SMsg::Tuple { .. } | SMsg::Hash { .. } => unreachable!(),
     }
 }
 

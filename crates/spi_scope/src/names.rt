@@ -127,6 +127,15 @@ impl<'t> Names<'t> {
         }
     }
 
+    /// Room for so many names more.
+    pub fn reserve(&mut self, more: usize) -> Result<(), NoMemory>
+        ensures { self.new ≡ self.old }
+    {
+        self.innermost.reserve(more)?;
+        self.hidden.reserve(more)?;
+        self.trail.reserve(more)
+    }
+
     /// How many names are in scope.
     pub fn len(&self) -> u32
         ensures { result ≡ length self.now.names }

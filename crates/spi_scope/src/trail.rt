@@ -62,6 +62,14 @@ impl<'t> Trail<'t> {
         }
     }
 
+    /// Room for so many chains more.
+    pub fn reserve(&mut self, more: usize) -> Result<(), NoMemory>
+        ensures { self.new ≡ self.old }
+    {
+        self.links.reserve(more)?;
+        Ok(())
+    }
+
     /// One more chain: the spelling before an earlier chain. There is no room for 2 ^ 32 chains, and so many don't come: each is
     /// that of a binder, which has a token of its own.
     pub fn extend(&mut self, word: &'t str, outer: u32) -> Result<u32, NoMemory>
