@@ -12,7 +12,7 @@ use Rattle.std.specs.Map.{lookup, keys_of}
 use Rattle.std.specs.Cmp.{nat_cmp_is}
 use Rattle.std.specs.Ordering.{nat_cmp, is_eq}
 use Rattle.std.specs.BTreeMap.{BTreeMap, get, is_at, IsOrdered}
-use Rattle.spi_count.specs.Counts.{ArePositive, count_of}
+use Rattle.spi_count.specs.Counts.{ArePositive, count_of, IsNothing}
 
 -- how high a key is counted in entries
 abbrev pub left_at : List (ℕ × ℕ) → ℕ → ℕ
@@ -42,6 +42,18 @@ is_apart q k ne = go (cases_order q k)
     go (inl e) = absurd (ne e)
     go (inr (inl l)) = ap is_eq (sym (nat_cmp_is q k Less l))
     go (inr (inr l)) = ap is_eq (sym (nat_cmp_is q k Greater l))
+
+-- where no key is counted, there are no entries
+pub no_entries : (m : BTreeMap ℕ ℕ) → ArePositive m → IsNothing m → m.entries ≡ []
+no_entries m p n = go m.entries refl
+  where
+    go : (es : List (ℕ × ℕ)) → m.entries ≡ es → es ≡ []
+    go [] e = refl
+    go ((k, by) ∷ es) e =
+        let at : get nat_cmp m k ≡ Some by = ap (lookup (is_at (nat_cmp k))) e ∙ lookup_head (is_at (nat_cmp k)) (k, by) es (is_here k k refl) in
+        let z : by ≡ 0 = sym (ap (λ r. unwrap_or r 0) at) ∙ n k in
+        let l = p k by at in
+        absurd (omega (arith, l, z))
 
 -- the first key stands nowhere else
 none_later : (k by : ℕ) (es : List (ℕ × ℕ)) → IsStrictlySortedBy nat_cmp (keys_of ((k, by) ∷ es)) → left_at es k ≡ 0

@@ -138,6 +138,12 @@ pub minus_append : (es fs gs : Effect) → minus es (fs ++ gs) ≡ minus (minus 
 minus_append es [] gs = refl
 minus_append es (f ∷ fs) gs = minus_append (less_one f es) fs gs
 
+pub adds_none : (keys : Keys) (sum : Sum) → AddsAll keys [] sum sum
+adds_none keys sum s _ es k tells_none h t = subst (SumOf s keys sum) (sym (append-nil es)) t
+
+pub takes_none : (keys : Keys) (sum : Sum) → TakesAll keys [] sum sum
+takes_none keys sum s _ es k tells_none t = t
+
 pub adds_more : (keys : Keys) (ids js : List AtomId) (a : AtomId) (old mid new : Sum) → js ≡ ids ++ a ∷ [] → AddsAll keys ids old mid → AddsAtom keys a mid new → AddsAll keys js old new
 adds_more keys ids js a old mid new e p q = subst (λ js. AddsAll keys js old new) (sym e) go
   where

@@ -1,13 +1,17 @@
 -- What counts by key say of an effect. A message has a number, and its key orders messages by their greatest names, so
 -- that the last key tells whether a name occurs.
-use Rattle.std.specs.Prelude.{◌≡◌, ◌≢◌, ℕ, suc, ◌+◌, ◌*◌, ◌<◌, ◌≤◌, max}
+use Rattle.std.specs.Prelude.{◌≡◌, ◌≢◌, ℕ, List, [], Option, None, Some, suc, ◌+◌, ◌*◌, ◌<◌, ◌≤◌, max}
+use Rattle.std.proofs.Common.{inl}
 use Rattle.std.specs.BTreeMap.{BTreeMap, btree_map_len}
+use Rattle.std_collections.specs.Layout.BTreeMap.{btree_map}
+use Rattle.std.specs.Global.{Box}
 use Rattle.spi_term.specs.Term.{Message, bound, name, unit, pair, in_left, in_right, enc, hash, Atom, ends, checks, many, Effect}
 use Rattle.spi_term.specs.Lists.{In}
 use Rattle.spi_term.specs.Counts.{count}
 use Rattle.spi_count.specs.Counts.{count_of, Sets}
 use Rattle.spi_count.specs.declared.sum.AtomKind.{AtomKind}
 use Rattle.spi_count.specs.declared.sum.AtomKind.TheVariants.{End, Check, Many}
+use Rattle.spi_count.specs.declared.sum.Counted.{Counted}
 use Rattle.spi_count.specs.declared.sum.Sum.{Sum}
 use Rattle.spi_intern.specs.Parts.{message_of}
 
@@ -31,11 +35,20 @@ kind_of_atom (ends m) = End
 kind_of_atom (checks m) = Check
 kind_of_atom (many m) = Many
 
--- the counts of the atoms of one kind
+-- the counts of the atoms of one kind, where there was an atom
+abbrev pub counts_of : AtomKind → Counted → BTreeMap ℕ ℕ
+counts_of End c = c.ends.counts
+counts_of Check c = c.checks.counts
+counts_of Many c = c.lasting.counts
+
+-- the keys that are counted, each with its count; there are none before the first atom comes
+abbrev pub entries_of : AtomKind → Option (Box Counted) → List (ℕ × ℕ)
+entries_of kind None = []
+entries_of kind (Some c) = (counts_of kind c.value).entries
+
+-- the counts of the atoms of one kind, as a map of its own, wherever they lie
 abbrev pub part : AtomKind → Sum → BTreeMap ℕ ℕ
-part End s = s.ends.counts
-part Check s = s.checks.counts
-part Many s = s.lasting.counts
+part kind s = btree_map (entries_of kind s.counted) (inl (record {}))
 
 -- a count with one more, which for `many` is at least 1, and the count of a sum
 abbrev pub one_more : AtomKind → ℕ → ℕ
@@ -49,8 +62,11 @@ both_counts Check m n = m + n
 both_counts Many m n = max m n
 
 -- how many keys are kept
+abbrev pub counted_keys : Counted → ℕ
+counted_keys c = btree_map_len c.ends.counts + btree_map_len c.checks.counts + btree_map_len c.lasting.counts
+
 abbrev pub sum_keys : Sum → ℕ
-sum_keys s = btree_map_len s.ends.counts + btree_map_len s.checks.counts + btree_map_len s.lasting.counts
+sum_keys s = btree_map_len (part End s) + btree_map_len (part Check s) + btree_map_len (part Many s)
 
 -- the atoms of that kind are counted so high at a key, and all else is as before
 pub record Puts (kind : AtomKind) (old new : Sum) (key n : ℕ) : Type 0 where

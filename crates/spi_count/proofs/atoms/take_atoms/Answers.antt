@@ -1,6 +1,9 @@
 use Rattle.std.proofs.Common.{take, ◌+◌}
-use Rattle.spi_count.proofs.Summed.{takes_more, take_step}
+use Rattle.spi_count.proofs.Summed.{takes_none, takes_more, take_step}
 use Rattle.spi_count.proofs.atoms.take_atoms.Goals as goal
+
+pub loop-a-init : goal.loop-a-init
+loop-a-init c = takes_none c.args.keys.now c.args.sum.now
 
 pub loop-a-preserved : goal.loop-a-preserved
 loop-a-preserved c =
