@@ -1,87 +1,109 @@
--- The numbers that spellings give: made from the last byte on, and those of short words tell the words.
-use Rattle.std.proofs.Common.{◌≡◌, ℕ, zero, suc, ◌+◌, ◌-◌, ◌*◌, ◌%◌, ◌^◌, ◌<◌, ◌≤◌, true, leb, ◌&&◌, List, [], ◌∷◌, ◌++◌, length, take, get_or, refl, sym, ap, ◌∙◌, arith}
-use Rattle.std.proofs.lemmas.Bool.{leb-true}
+-- The numbers of words: what they are made of, and that those of short words tell the words.
+use Rattle.std.proofs.Common.{◌≡◌, ℕ, zero, suc, ◌+◌, ◌-◌, ◌*◌, ◌^◌, ◌<◌, ◌≤◌, Bool, true, false, cond, ltb, eqb, ◌&&◌, List, [], ◌∷◌, ◌++◌, length, take, drop, refl, sym, ap, ap₂, ◌∙◌, ⊎_elim, arith}
+use Rattle.std.proofs.lemmas.Bool.{le-ltb, lt-ltb, eqb-true, eq-eqb, cases_lt, both_ways}
+use Rattle.std.proofs.lemmas.List.{take-append-drop, take_all, drop-drop, length-drop, length-take-le}
 use Rattle.std.proofs.lemmas.Slice.Eq.{bytes_eq-Decides}
 use Rattle.std.specs.Cmp.{first_so, second_so}
 use Rattle.std.specs.Str.{bytes_eq}
-use Rattle.std.specs.Prelude.{if◌then◌else◌}
-use Rattle.spi_scope.specs.Spelling.{spelled, spelled_after, code_of, AreBytes}
-
-spelled_last : (n : ℕ) (xs : List ℕ) (x : ℕ) → spelled_after n (xs ++ x ∷ []) ≡ spelled_after ((n * 257 + x) % 2 ^ 64) xs
-spelled_last n [] x = refl
-spelled_last n (y ∷ xs) x = ap (λ m. (m * 257 + y) % 2 ^ 64) (spelled_last n xs x)
-
-with_last : (xs : List ℕ) (n : ℕ) → length xs ≡ suc n → take n xs ++ get_or xs n 0 ∷ [] ≡ xs
-with_last [] n e = absurd (omega (arith, e))
-with_last (x ∷ []) zero e = refl
-with_last (x ∷ y ∷ xs) zero e = absurd (omega (arith, e))
-with_last (x ∷ xs) (suc n) e = ap (λ l. x ∷ l) (with_last xs n (omega (arith, e)))
-
-cut_once : (n x : ℕ) → (n * 257 % 2 ^ 64 + x) % 2 ^ 64 ≡ (n * 257 + x) % 2 ^ 64
-cut_once n x = omega arith
-
-pub one_more : (n : ℕ) (xs : List ℕ) → 1 ≤ length xs → spelled_after ((n * 257 % 2 ^ 64 + get_or xs (length xs - 1) 0) % 2 ^ 64) (take (length xs - 1) xs) ≡ spelled_after n xs
-one_more n xs h =
-    let at = length xs - 1 in
-    ap (λ m. spelled_after m (take at xs)) (cut_once n (get_or xs at 0)) ∙ sym (spelled_last n (take at xs) (get_or xs at 0))
-    ∙ ap (spelled_after n) (with_last xs at (omega (arith, h)))
-
-first_byte : (x : ℕ) (xs : List ℕ) → AreBytes (x ∷ xs) → x < 256
-first_byte x xs b = b 0
+use Rattle.spi_scope.specs.Spelling.{spelled, front_of, AreBytes}
 
 later_bytes : (x : ℕ) (xs : List ℕ) → AreBytes (x ∷ xs) → AreBytes xs
 later_bytes x xs b i = b (suc i)
 
--- a number below which n digits after a 1 stay
-abbrev most : ℕ → ℕ
-most zero = 2
-most (suc n) = most n * 257
+bytes_drop : (n : ℕ) (xs : List ℕ) → AreBytes xs → AreBytes (drop n xs)
+bytes_drop zero xs b = b
+bytes_drop (suc n) [] b = b
+bytes_drop (suc n) (x ∷ xs) b = bytes_drop n xs (later_bytes x xs b)
 
-small_mod : (n : ℕ) → n < 2 ^ 64 → n % 2 ^ 64 ≡ n
-small_mod n h = omega (arith, h)
+bytes_take : (n : ℕ) (xs : List ℕ) → AreBytes xs → AreBytes (take n xs)
+bytes_take zero xs b zero = omega arith
+bytes_take zero xs b (suc i) = omega arith
+bytes_take (suc n) [] b i = b i
+bytes_take (suc n) (x ∷ xs) b zero = b 0
+bytes_take (suc n) (x ∷ xs) b (suc i) = bytes_take n xs (later_bytes x xs b) i
 
--- so many digits are not cut
-whole : (n : ℕ) (xs : List ℕ) → most n ≤ 2 ^ 64 → length xs ≤ n → AreBytes xs → (1 ≤ spelled xs) × (spelled xs < most n)
-whole zero [] m l b = (omega arith, omega arith)
-whole zero (x ∷ xs) m l b = absurd (omega (arith, l))
-whole (suc n) [] m l b = (omega arith, omega (arith, (whole n [] (omega (arith, m)) (omega arith) b).1))
-whole (suc n) (x ∷ xs) m l b =
-    let h = whole n xs (omega (arith, m)) (omega (arith, l)) (later_bytes x xs b) in
-    let small = first_byte x xs b in
-    let e = small_mod (spelled xs * 257 + x) (omega (arith, m, h.1, small)) in
-    (omega (arith, e, h.0), omega (arith, e, h.1, small))
+-- as many bytes that spell one number are the same
+spelled_tells : (xs ys : List ℕ) → length xs ≡ length ys → AreBytes xs → AreBytes ys → spelled xs ≡ spelled ys → xs ≡ ys
+spelled_tells [] [] l a b e = refl
+spelled_tells [] (y ∷ ys) l a b e = absurd (omega (arith, l))
+spelled_tells (x ∷ xs) [] l a b e = absurd (omega (arith, l))
+spelled_tells (x ∷ xs) (y ∷ ys) l a b e =
+    let small : x < 256 = a 0 in
+    let other : y < 256 = b 0 in
+    let first : x ≡ y = omega (arith, e, small, other) in
+    let rest : spelled xs ≡ spelled ys = omega (arith, e, small, other) in
+    ap (λ z. z ∷ xs) first ∙ ap (λ zs. y ∷ zs) (spelled_tells xs ys (omega (arith, l)) (later_bytes x xs a) (later_bytes y ys b) rest)
 
--- the number of one more byte
-grown : (n : ℕ) (x : ℕ) (xs : List ℕ) → most (suc n) ≤ 2 ^ 64 → length xs ≤ n → AreBytes (x ∷ xs) → (spelled (x ∷ xs) ≡ spelled xs * 257 + x) × (1 ≤ spelled xs) × (x < 256)
-grown n x xs m l b =
-    let h = whole n xs (omega (arith, m)) l (later_bytes x xs b) in
-    let small = first_byte x xs b in
-    (small_mod (spelled xs * 257 + x) (omega (arith, m, h.1, small)), h.0, small)
+four_below : (xs : List ℕ) → length xs ≡ 4 → AreBytes xs → spelled xs < 2 ^ 32
+four_below [] l b = absurd (omega (arith, l))
+four_below (p ∷ []) l b = absurd (omega (arith, l))
+four_below (p ∷ q ∷ []) l b = absurd (omega (arith, l))
+four_below (p ∷ q ∷ r ∷ []) l b = absurd (omega (arith, l))
+four_below (p ∷ q ∷ r ∷ s ∷ []) l b =
+    let p_small : p < 256 = b 0 in
+    let q_small : q < 256 = b 1 in
+    let r_small : r < 256 = b 2 in
+    let s_small : s < 256 = b 3 in
+    omega (arith, p_small, q_small, r_small, s_small)
+four_below (p ∷ q ∷ r ∷ s ∷ t ∷ xs) l b = absurd (omega (arith, l))
 
-tells : (n : ℕ) (xs ys : List ℕ) → most n ≤ 2 ^ 64 → length xs ≤ n → length ys ≤ n → AreBytes xs → AreBytes ys → spelled xs ≡ spelled ys → xs ≡ ys
-tells n [] [] m k l a b e = refl
-tells zero [] (y ∷ ys) m k l a b e = absurd (omega (arith, l))
-tells zero (x ∷ xs) ys m k l a b e = absurd (omega (arith, k))
-tells (suc n) [] (y ∷ ys) m k l a b e =
-    let h = grown n y ys m (omega (arith, l)) b in absurd (omega (arith, e, h.0, h.1))
-tells (suc n) (x ∷ xs) [] m k l a b e =
-    let g = grown n x xs m (omega (arith, k)) a in absurd (omega (arith, e, g.0, g.1))
-tells (suc n) (x ∷ xs) (y ∷ ys) m k l a b e =
-    let g = grown n x xs m (omega (arith, k)) a in
-    let h = grown n y ys m (omega (arith, l)) b in
-    let first : x ≡ y = omega (arith, e, g.0, h.0, g.2, h.2) in
-    let rest : spelled xs ≡ spelled ys = omega (arith, e, g.0, h.0, g.2, h.2) in
-    ap (λ z. z ∷ xs) first
-    ∙ ap (λ zs. y ∷ zs) (tells n xs ys (omega (arith, m)) (omega (arith, k)) (omega (arith, l)) (later_bytes x xs a) (later_bytes y ys b) rest)
+-- the number of a word of up to three bytes, and of a longer one
+chosen_true : (b : Bool) (m n : ℕ) → b ≡ true → cond b m n ≡ m
+chosen_true true m n e = refl
+chosen_true false m n e = absurd (both_ways false refl e)
 
-short_code : (xs : List ℕ) → leb (length xs) 7 ≡ true → code_of xs ≡ spelled xs
-short_code xs p = ap (λ b. if b then spelled xs else 0) p
+chosen_false : (b : Bool) (m n : ℕ) → b ≡ false → cond b m n ≡ n
+chosen_false true m n e = absurd (both_ways true e refl)
+chosen_false false m n e = refl
 
--- words of at most seven bytes with one number are one word
-pub short_same : (xs ys : List ℕ) → (leb (length xs) 7 && leb (length ys) 7) ≡ true → (length xs ≤ 7 → AreBytes xs) → (length ys ≤ 7 → AreBytes ys) → code_of xs ≡ code_of ys → bytes_eq xs ys ≡ true
-short_same xs ys s a b e =
-    let p = first_so (leb (length xs) 7) (leb (length ys) 7) s in
-    let q = second_so (leb (length xs) 7) (leb (length ys) 7) s in
-    let k = leb-true (length xs) 7 p in
-    let l = leb-true (length ys) 7 q in
-    (bytes_eq-Decides xs ys).1 (tells 7 xs ys (omega arith) k l (a k) (b l) (sym (short_code xs p) ∙ e ∙ short_code ys q))
+short_front : (xs : List ℕ) → length xs < 4 → front_of xs ≡ spelled xs
+short_front xs h = chosen_true (ltb (length xs) 4) (spelled xs) (spelled (take 4 xs) + spelled (drop (length xs - 4) xs) * 2 ^ 32) (lt-ltb (length xs) 4 h)
+
+long_front : (xs : List ℕ) → 4 ≤ length xs → front_of xs ≡ spelled (take 4 xs) + spelled (drop (length xs - 4) xs) * 2 ^ 32
+long_front xs h = chosen_false (ltb (length xs) 4) (spelled xs) (spelled (take 4 xs) + spelled (drop (length xs - 4) xs) * 2 ^ 32) (le-ltb (length xs) 4 h)
+
+pub made_of_fours : (xs : List ℕ) → 4 ≤ length xs → spelled (take 4 (drop 0 xs)) + spelled (take 4 (drop (length xs - 4) xs)) * 2 ^ 32 ≡ front_of xs
+made_of_fours xs h =
+    ap (λ l. spelled (take 4 xs) + spelled l * 2 ^ 32) (take_all 4 (drop (length xs - 4) xs) (omega (arith, h, length-drop (length xs - 4) xs)))
+    ∙ sym (long_front xs h)
+
+halves : (a b c d : ℕ) → a < 2 ^ 32 → c < 2 ^ 32 → a + b * 2 ^ 32 ≡ c + d * 2 ^ 32 → (a ≡ c) × (b ≡ d)
+halves a b c d k l e = (omega (arith, k, l, e), omega (arith, k, l, e))
+
+-- what stands behind the first four bytes is among the last four
+behind : (xs : List ℕ) → 4 ≤ length xs → length xs ≤ 8 → drop 4 xs ≡ drop (8 - length xs) (drop (length xs - 4) xs)
+behind xs h k =
+    let e : 4 ≡ (length xs - 4) + (8 - length xs) = omega (arith, h, k) in
+    ap (λ n. drop n xs) e ∙ sym (drop-drop (8 - length xs) (length xs - 4) xs)
+
+long_tells : (xs ys : List ℕ) → 4 ≤ length xs → length xs ≤ 8 → length xs ≡ length ys → AreBytes xs → AreBytes ys → front_of xs ≡ front_of ys → xs ≡ ys
+long_tells xs ys h k l a b e =
+    let m : 4 ≤ length ys = omega (arith, h, l) in
+    let xs_four : length (take 4 xs) ≡ 4 = length-take-le 4 xs h in
+    let ys_four : length (take 4 ys) ≡ 4 = length-take-le 4 ys m in
+    let xs_bytes = bytes_take 4 xs a in
+    let ys_bytes = bytes_take 4 ys b in
+    let parts = halves (spelled (take 4 xs)) (spelled (drop (length xs - 4) xs)) (spelled (take 4 ys)) (spelled (drop (length ys - 4) ys))
+        (four_below (take 4 xs) xs_four xs_bytes) (four_below (take 4 ys) ys_four ys_bytes) (sym (long_front xs h) ∙ e ∙ long_front ys m) in
+    let first : take 4 xs ≡ take 4 ys = spelled_tells (take 4 xs) (take 4 ys) (xs_four ∙ sym ys_four) xs_bytes ys_bytes parts.0 in
+    let last : drop (length xs - 4) xs ≡ drop (length ys - 4) ys =
+        spelled_tells (drop (length xs - 4) xs) (drop (length ys - 4) ys)
+            (omega (arith, l, length-drop (length xs - 4) xs, length-drop (length ys - 4) ys))
+            (bytes_drop (length xs - 4) xs a) (bytes_drop (length ys - 4) ys b) parts.1 in
+    let rest : drop 4 xs ≡ drop 4 ys =
+        behind xs h k ∙ ap₂ (λ n zs. drop (8 - n) zs) l last ∙ sym (behind ys m (omega (arith, l, k))) in
+    sym (take-append-drop 4 xs) ∙ ap₂ (λ us vs. us ++ vs) first rest ∙ take-append-drop 4 ys
+
+tells : (xs ys : List ℕ) → length xs ≤ 8 → length xs ≡ length ys → AreBytes xs → AreBytes ys → front_of xs ≡ front_of ys → xs ≡ ys
+tells xs ys k l a b e =
+    ⊎_elim
+        (λ h. spelled_tells xs ys l a b (sym (short_front xs h) ∙ e ∙ short_front ys (omega (arith, h, l))))
+        (λ h. long_tells xs ys h k l a b e)
+        (cases_lt (length xs) 4)
+
+-- words of up to eight bytes with one number and one length are the same
+pub short_same : (xs ys : List ℕ) (f g : ℕ) → (eqb f g && eqb (length xs) (length ys)) ≡ true → length xs ≤ 8 → f ≡ front_of xs → g ≡ front_of ys → AreBytes xs → AreBytes ys → bytes_eq xs ys ≡ true
+short_same xs ys f g same short p q a b =
+    let e = eqb-true f g (first_so (eqb f g) (eqb (length xs) (length ys)) same) in
+    let l = eqb-true (length xs) (length ys) (second_so (eqb f g) (eqb (length xs) (length ys)) same) in
+    (bytes_eq-Decides xs ys).1 (tells xs ys short l a b (sym p ∙ e ∙ q))

@@ -1,41 +1,50 @@
 //! The spelling of a name as a key: with a number by which it is hashed.
 
-ghost use Rattle.std.specs.Prelude.{◌≡◌, ◌≤◌, ◌↔◌, IsTrue, length};
-ghost use Rattle.spi_scope.specs.Spelling.{spelled, AreBytes};
+ghost use Rattle.std.specs.Prelude.{◌≡◌, ◌+◌, ◌^◌, ◌<◌, ◌≤◌, length, take, drop};
+ghost use Rattle.spi_scope.specs.Spelling.{spelled, front_of, AreBytes};
 
 use std::hash::{Hash, Hasher};
 use std::marker::Model;
 
-/// How many bytes a word may have that is told by its number.
-const SHORT: usize = 7;
-
-/// The number that the bytes spell.
-#[inline]
-fn number_spelled(word: &str) -> u64
-    ensures number { result ≡ spelled word.now }
-    ensures bytes { AreBytes word.now }
+/// The number that the four bytes from here on spell.
+#[inline(always)]
+fn four(bytes: &[u8], at: usize) -> u64
+    requires { at + 4 ≤ length bytes.now }
+    ensures number { result ≡ spelled (take 4 (drop at bytes.now)) }
+    ensures below { result < 2 ^ 32 }
 {
-    let mut code: u64 = 1;
-    let mut left = word.as_bytes();
-    while let [rest @ .., last] = left {
-        code = code.wrapping_mul(257).wrapping_add(*last as u64);
-        left = rest;
-    }
-    code
+    let low = bytes[at] as u64 + bytes[at + 1] as u64 * 256;
+    let high = bytes[at + 2] as u64 + bytes[at + 3] as u64 * 256;
+    low + high * 65_536
 }
 
-/// A spelling. One of at most seven bytes has a number of its own, by which it is hashed and told from others; for a longer
-/// one the number is 0, and its bytes are looked at.
+/// The number that tells a short word.
+#[inline(always)]
+fn front(word: &str) -> u64
+    ensures number { result ≡ front_of word.now }
+    ensures bytes { AreBytes word.now }
+{
+    match word.as_bytes() {
+        [] => 0,
+        [a] => *a as u64,
+        [a, b] => *a as u64 + *b as u64 * 256,
+        [a, b, c] => *a as u64 + *b as u64 * 256 + *c as u64 * 65_536,
+        bytes => four(bytes, 0) + four(bytes, bytes.len() - 4) * 4_294_967_296,
+    }
+}
+
+/// A spelling, with a number that its first and its last bytes give. Most others are told from it by that, and where a
+/// word has at most eight bytes, all: so it is hashed by that number, and a longer one by its bytes.
 #[derive(Drop)]
 pub struct Spelling<'t> {
-    code: u64,
+    front: u64,
     word: &'t str,
 }
 
 impl<'t> Model for Spelling<'t> {
-    ghost use Rattle.std.specs.Prelude.{◌≡◌, ◌≤◌, ℕ, List, length};
+    ghost use Rattle.std.specs.Prelude.{◌≡◌, ℕ, List};
     ghost use Rattle.std.specs.Coded.{coded_ℕ, coded_list};
-    ghost use Rattle.spi_scope.specs.Spelling.{code_of, AreBytes};
+    ghost use Rattle.spi_scope.specs.Spelling.{front_of, AreBytes};
 
     ghost Value = { List ℕ };
 
@@ -43,7 +52,7 @@ impl<'t> Model for Spelling<'t> {
 
     ghost view = { λ s. s.word.now };
 
-    ghost invariant = { λ s. (s.code ≡ code_of s.word.now) × (length s.word.now ≤ 7 → AreBytes s.word.now) };
+    ghost invariant = { λ s. (s.front ≡ front_of s.word.now) × AreBytes s.word.now };
 }
 
 impl<'t> Spelling<'t> {
@@ -52,12 +61,10 @@ impl<'t> Spelling<'t> {
     pub fn of(word: &'t str) -> Self
         ensures { result ≡ word.now }
     {
-        let code = if word.len() <= SHORT {
-            number_spelled(word)
-        } else {
-            0
-        };
-        Spelling { code, word }
+        Spelling {
+            front: front(word),
+            word,
+        }
     }
 }
 
@@ -72,8 +79,8 @@ impl PartialEq for Spelling<'_> {
 
     #[inline(always)]
     fn eq(&self, other: &Self) -> bool {
-        let short = (self.word.len() <= SHORT) & (other.word.len() <= SHORT);
-        self.code == other.code && (short || self.word == other.word)
+        let alike = (self.front == other.front) & (self.word.len() == other.word.len());
+        alike && (self.word.len() <= 8 || self.word == other.word)
     }
 }
 
@@ -85,20 +92,17 @@ impl Eq for Spelling<'_> {
 
 impl Hash for Spelling<'_> {
     ghost use Rattle.std.proofs.Common.{ap};
-    ghost use Rattle.std.specs.Hash as fed;
     ghost use Rattle.std.specs.Cmp.Lexicographic.{bytes_decides};
-    ghost use Rattle.std.specs.Prelude.{if◌then◌else◌, length, leb};
-    ghost use Rattle.spi_scope.specs.Spelling.{spelled};
+    ghost use Rattle.spi_scope.specs.Spelling.{fed_word};
 
-    ghost hash_input = { λ s. if leb (length s) 7 then fed.u64 (spelled s) else fed.str s };
+    ghost hash_input = { fed_word };
 
-    ghost respects_eq = { λ x y h.
-        ap (λ s. if leb (length s) 7 then fed.u64 (spelled s) else fed.str s) ((bytes_decides x y).0 h) };
+    ghost respects_eq = { λ x y h. ap fed_word ((bytes_decides x y).0 h) };
 
     #[inline(always)]
     fn hash<H: Hasher>(&self, state: &mut H) {
-        if self.word.len() <= SHORT {
-            self.code.hash(state);
+        if self.word.len() <= 8 {
+            self.front.hash(state);
         } else {
             self.word.hash(state);
         }
