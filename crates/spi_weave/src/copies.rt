@@ -1,7 +1,8 @@
 //! Equal messages, types and declarations.
 
 ghost use Rattle.std.specs.Prelude.{◌≡◌, map, Ok, IfOk};
-ghost use Rattle.spi_tree.specs.Views.{msg_of, atom_of, ty_of, last_of, field_of, decl_of};
+ghost use Rattle.spi_text.specs.declared.lines.Span.{Span};
+ghost use Rattle.spi_tree.specs.Views.{msg_of, atom_of, ty_of, tuple_of, last_of, field_of, decl_of};
 
 use crate::NoMemory;
 use spi_text::Text;
@@ -153,10 +154,7 @@ fn fields(alloc: Global, fs: &[SField]) -> Result<Vec<SField>, NoMemory>
 
 #[cycle(types)]
 fn type_parts(alloc: Global, parts: &TyParts) -> Result<TyParts, NoMemory>
-    ensures name { IfOk result (λ r. r.name ≡ parts.now.name) }
-    ensures first { IfOk result (λ r. ty_of r.first ≡ ty_of parts.now.first) }
-    ensures more { IfOk result (λ r. map field_of r.more.items ≡ map field_of parts.now.more.items) }
-    ensures last { IfOk result (λ r. last_of r.last ≡ last_of parts.now.last) }
+    ensures { IfOk result (λ r. (s : Span) → tuple_of s r ≡ tuple_of s parts.now) }
 {
     Ok(TyParts {
         name: word(alloc, &parts.name)?,

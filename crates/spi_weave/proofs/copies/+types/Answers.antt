@@ -1,10 +1,13 @@
-use Rattle.spi_weave.proofs.Copied.{boxed_type, boxed_last, same_tuple_ty}
+use Rattle.std.proofs.Common.{map, ap, ◌∙◌}
+use Rattle.spi_tree.specs.Views.{field_of}
+use Rattle.spi_weave.proofs.Copied.{same_parts, same_tuple_ty}
 use Rattle.spi_weave.proofs.copies.+types.Goals as goal
 
-pub ty-returns-in_ok-boxed-in-Tuple-2 : goal.ty-returns-in_ok-boxed-in-Tuple-2
-ty-returns-in_ok-boxed-in-Tuple-2 t c =
-    same_tuple_ty _ _ _ _ _ _ _ c.deref.result.now c.deref-in-Tuple.result.now c.deref-in-Tuple-2.result.now c.in_ok-boxed-in-Tuple.field-0 c.in_ok-fields-in-Tuple.field-0 c.in_ok-boxed-in-Tuple-2.field-0 c.in-Tuple.is c.deref.ensures c.deref-in-Tuple.ensures.value c.deref-in-Tuple-2.ensures
-    c.in_ok-word-in-Tuple.ensures
-    (boxed_type c.deref.result.now c.in_ok-boxed-in-Tuple.field-0 c.in_ok-boxed-in-Tuple.ensures c.ty.ensures)
-    c.in_ok-fields-in-Tuple.ensures
-    (boxed_last c.deref-in-Tuple-2.result.now c.in_ok-boxed-in-Tuple-2.field-0 c.in_ok-boxed-in-Tuple-2.ensures c.last.ensures)
+pub type_parts-returns : goal.type_parts-returns
+type_parts-returns t c =
+    same_parts c.args.parts.now c.in_ok-word.field-0 c.in_ok-ty.field-0 c.in_ok-fields.field-0 c.in_ok-last.field-0
+    c.in_ok-word.ensures c.in_ok-ty.ensures (c.in_ok-fields.ensures ∙ ap (map field_of) c.deref.ensures.value) c.in_ok-last.ensures
+
+pub ty-returns-in_ok-boxed-in-Tuple : goal.ty-returns-in_ok-boxed-in-Tuple
+ty-returns-in_ok-boxed-in-Tuple t c =
+    same_tuple_ty _ _ c.in_ok-boxed-in-Tuple.field-0 _ c.deref.result.now c.in-Tuple.is c.deref.ensures c.in_ok-boxed-in-Tuple.ensures c.type_parts.ensures
