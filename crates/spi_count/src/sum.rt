@@ -83,7 +83,8 @@ impl Counted {
         ensures less { IfSome result (λ p. counted_keys self.new < counted_keys self.old) }
         ensures none { IfNone result
             ((kind : AtomKind) (q : ℕ) → 0 < count_of (counts_of kind self.old) q → q < least) }
-        ensures same { IfNone result ((kind : AtomKind) → counts_of kind self.new ≡ counts_of kind self.old) }
+        ensures same { IfNone result
+            ((kind : AtomKind) → counts_of kind self.new ≡ counts_of kind self.old) }
     {
         match self.ends.take_from(least) {
             Some((key, count)) => Some((AtomKind::End, key, count)),
