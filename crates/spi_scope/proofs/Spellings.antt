@@ -84,22 +84,22 @@ long_tells xs ys h k l a b e =
     let xs_bytes = bytes_take 4 xs a in
     let ys_bytes = bytes_take 4 ys b in
     let parts = halves (spelled (take 4 xs)) (spelled (drop (length xs - 4) xs)) (spelled (take 4 ys)) (spelled (drop (length ys - 4) ys))
-        (four_below (take 4 xs) xs_four xs_bytes) (four_below (take 4 ys) ys_four ys_bytes) (sym (long_front xs h) ∙ e ∙ long_front ys m) in
+    (four_below (take 4 xs) xs_four xs_bytes) (four_below (take 4 ys) ys_four ys_bytes) (sym (long_front xs h) ∙ e ∙ long_front ys m) in
     let first : take 4 xs ≡ take 4 ys = spelled_tells (take 4 xs) (take 4 ys) (xs_four ∙ sym ys_four) xs_bytes ys_bytes parts.0 in
     let last : drop (length xs - 4) xs ≡ drop (length ys - 4) ys =
-        spelled_tells (drop (length xs - 4) xs) (drop (length ys - 4) ys)
-            (omega (arith, l, length-drop (length xs - 4) xs, length-drop (length ys - 4) ys))
-            (bytes_drop (length xs - 4) xs a) (bytes_drop (length ys - 4) ys b) parts.1 in
+    spelled_tells (drop (length xs - 4) xs) (drop (length ys - 4) ys)
+    (omega (arith, l, length-drop (length xs - 4) xs, length-drop (length ys - 4) ys))
+    (bytes_drop (length xs - 4) xs a) (bytes_drop (length ys - 4) ys b) parts.1 in
     let rest : drop 4 xs ≡ drop 4 ys =
-        behind xs h k ∙ ap₂ (λ n zs. drop (8 - n) zs) l last ∙ sym (behind ys m (omega (arith, l, k))) in
+    behind xs h k ∙ ap₂ (λ n zs. drop (8 - n) zs) l last ∙ sym (behind ys m (omega (arith, l, k))) in
     sym (take-append-drop 4 xs) ∙ ap₂ (λ us vs. us ++ vs) first rest ∙ take-append-drop 4 ys
 
 tells : (xs ys : List ℕ) → length xs ≤ 8 → length xs ≡ length ys → AreBytes xs → AreBytes ys → front_of xs ≡ front_of ys → xs ≡ ys
 tells xs ys k l a b e =
     ⊎_elim
-        (λ h. spelled_tells xs ys l a b (sym (short_front xs h) ∙ e ∙ short_front ys (omega (arith, h, l))))
-        (λ h. long_tells xs ys h k l a b e)
-        (cases_lt (length xs) 4)
+    (λ h. spelled_tells xs ys l a b (sym (short_front xs h) ∙ e ∙ short_front ys (omega (arith, h, l))))
+    (λ h. long_tells xs ys h k l a b e)
+    (cases_lt (length xs) 4)
 
 -- words of up to eight bytes with one number and one length are the same
 pub short_same : (xs ys : List ℕ) (f g : ℕ) → (eqb f g && eqb (length xs) (length ys)) ≡ true → length xs ≤ 8 → f ≡ front_of xs → g ≡ front_of ys → AreBytes xs → AreBytes ys → bytes_eq xs ys ≡ true

@@ -8,6 +8,7 @@ use Rattle.spi_tree.specs.declared.tree.STy.TheVariants.{Tuple}
 use Rattle.spi_tree.specs.declared.tree.TyParts.{out-TyParts}
 use Rattle.spi_tree.proofs.Rows.{tuple_ty_is}
 use Rattle.spi_term.specs.View.{ty}
+use Rattle.spi_scope.specs.Forms.{type_form}
 use Rattle.spi_scope.specs.Meaning.{behind}
 use Rattle.spi_scope.specs.Table.{with_names}
 use Rattle.spi_scope.proofs.Tuples.{CountedType, CountedFields, CountedLast, naming, in_names, bound, tuple_counted, tuple_left}
@@ -42,6 +43,16 @@ read_tuple-returns t c =
           head.total fields.total tail.total (ty head.head) (map ty fields.fields.items) (ty tail.tail) (ty c.in_ok-ty-in-Tuple.ty)
           behind_name f s3 tail.ensures.scope;
     }
+
+pub read_tuple-returns-in_err-head-in-Tuple-clause-gives : goal.read_tuple-returns-in_err-head-in-Tuple-clause-gives
+read_tuple-returns-in_err-head-in-Tuple-clause-gives t c =
+    let w = c.in-Tuple in
+    let e : c.args.t.now ≡ Tuple w.parts w.span = w.is in
+    rw (ap ty_of e ∙ tuple_ty_is w.parts w.span, ← ap (λ v. (out-TyParts v).first) c.deref.ensures) (search rules)
+
+pub read_type-read_tuple-requires : goal.read_type-read_tuple-requires
+read_type-read_tuple-requires t c =
+    ap (λ x. type_form (ty_of x)) c.in-Tuple.is ∙ ap type_form (tuple_ty_is c.in-Tuple.parts c.in-Tuple.span)
 
 pub read_tuple-returns-in_err-fields-in-Tuple-clause-gives : goal.read_tuple-returns-in_err-fields-in-Tuple-clause-gives
 read_tuple-returns-in_err-fields-in-Tuple-clause-gives t c =

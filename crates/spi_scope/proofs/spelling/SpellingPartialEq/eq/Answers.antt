@@ -9,5 +9,5 @@ returns-then-self-le8 c =
     let s = c.self.inside in
     let o = c.other.inside in
     let same = short_same s.word.now o.word.now s.front o.front c.if-alike.true c.if-self-le8.true
-        c.self.invariant.0 c.other.invariant.0 c.self.invariant.1 c.other.invariant.1 in
+    c.self.invariant.0 c.other.invariant.0 c.self.invariant.1 c.other.invariant.1 in
     le-leb (length s.word.now) 8 c.if-self-le8.true ∙ sym same ∙ ap₂ bytes_eq c.self.view_is c.other.view_is
