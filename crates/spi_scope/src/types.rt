@@ -1,7 +1,7 @@
 //! Types.
 
 ghost use Rattle.std.specs.Prelude.{◌≡◌, ◌+◌, ◌≤◌, ◌∷◌, map, IfOk, OnOk};
-ghost use Rattle.spi_tree.specs.Trees.{key, sum, fields_of_list, nowhere};
+ghost use Rattle.spi_tree.specs.Trees.{key, fields_of_list, nowhere};
 ghost use Rattle.spi_tree.specs.Views.{msg_of, atom_of, ty_of, field_of, last_of};
 ghost use Rattle.spi_term.specs.Term.{message_size, pair_ty, nonce};
 ghost use Rattle.spi_term.specs.Spelling.{atom_nodes, effect_nodes, ty_nodes, stopped};
@@ -12,7 +12,7 @@ ghost use Rattle.spi_scope.specs.Points.{msg_span, msg_nodes, one, uses_type, me
 ghost use Rattle.spi_scope.specs.Gives.{GivesMeant, CountsOn, run};
 ghost use Rattle.spi_scope.specs.State.{abbreviations, type_row_nodes};
 ghost use Rattle.spi_scope.specs.Table.{with_names};
-ghost use Rattle.spi_scope.specs.Forms.{type_form, tuple_ty_form};
+ghost use Rattle.spi_scope.specs.Forms.{type_form, tuple_ty_form, sum_form};
 
 use crate::fault::ScopeFault;
 use crate::messages::{boxed, read_message};
@@ -200,7 +200,7 @@ pub fn read_type<'t>(
         STy::Un { .. } => Ok((Ty::Un, spent.saturating_add(1))),
         STy::Unit { .. } => Ok((Ty::Unit, spent.saturating_add(1))),
         STy::Tuple { .. } => read_tuple(alloc, scope, base, spent, t),
-        STy::Sum { left, right, .. } => read_sum(alloc, scope, base, spent, left, right),
+        STy::Sum { .. } => read_sum(alloc, scope, base, spent, t),
         STy::Key { part, .. } => read_key(alloc, scope, base, spent, part),
         STy::Nonce { effect, .. } => read_nonce(alloc, scope, base, spent, effect),
         STy::Abbr { name } => read_abbreviation(alloc, scope, spent, name),
@@ -244,27 +244,33 @@ fn read_tuple<'t>(
     }
 }
 
-/// The type that `(T + U)` stands for, of these two, with its nodes counted on.
+/// The type that a sum type stands for, with its nodes counted on.
 #[cycle(types)]
 fn read_sum<'t>(
     alloc: Global,
     scope: &mut Scope<'t>,
     base: u32,
     spent: u64,
-    left: &'t STy,
-    right: &'t STy,
+    t: &'t STy,
 ) -> Result<(Ty, u64), ScopeFault>
+    requires { type_form (ty_of t.now) ≡ sum_form }
     ensures gives { CountsOn ty ty_nodes result
-        (run (type_points (abbreviations scope.old.types) scope.old.held.names
-        (sum nowhere (ty_of left.entry.now) (ty_of right.entry.now))) scope.old.count) scope.old.count spent
-        (type_in base (abbreviations scope.old.types) scope.old.held.names
-        (sum nowhere (ty_of left.entry.now) (ty_of right.entry.now))) }
+        (run (type_points (abbreviations scope.old.types) scope.old.held.names (ty_of t.entry.now))
+        scope.old.count) scope.old.count spent
+        (type_in base (abbreviations scope.old.types) scope.old.held.names (ty_of t.entry.now)) }
     ensures scope { OnOk result (scope.new ≡ scope.old) }
 {
-    let (left, total) = read_type(alloc, scope, base, spent.saturating_add(1), left)?;
-    let (right, total) = read_type(alloc, scope, base, total, right)?;
-    let whole = Ty::summed(alloc, left, right)?;
-    Ok((whole, total))
+    match t {
+        STy::Sum { left, right, .. } => {
+            let (left, total) = read_type(alloc, scope, base, spent.saturating_add(1), left)?;
+            let (right, total) = read_type(alloc, scope, base, total, right)?;
+            let whole = Ty::summed(alloc, left, right)?;
+            Ok((whole, total))
+        }
+        STy::Tuple { .. } => unreachable!(),
+        STy::Un { .. } | STy::Unit { .. } | STy::Key { .. } => unreachable!(),
+        STy::Nonce { .. } | STy::Abbr { .. } => unreachable!(),
+    }
 }
 
 /// The type that `Key(T)` stands for, of this `T`.

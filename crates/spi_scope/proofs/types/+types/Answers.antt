@@ -1,4 +1,5 @@
-use Rattle.std.proofs.Common.{rules, ◌≡◌, ◌∷◌, ◌-◌, List, length, drop, map, ap, ◌∙◌, subst}
+use Rattle.std.proofs.Common.{rules, ◌≡◌, ◌∷◌, ◌-◌, List, length, drop, map, ap, sym, ◌∙◌, subst}
+use Rattle.std.specs.Prelude.{⊤}
 use Rattle.spi_tree.specs.Trees.{fields_of_list}
 use Rattle.spi_tree.specs.Views.{ty_of, field_of, last_of}
 use Rattle.spi_tree.specs.declared.tree.SField.{SField}
@@ -8,7 +9,7 @@ use Rattle.spi_tree.specs.declared.tree.STy.TheVariants.{Tuple}
 use Rattle.spi_tree.specs.declared.tree.TyParts.{out-TyParts}
 use Rattle.spi_tree.proofs.Rows.{tuple_ty_is}
 use Rattle.spi_term.specs.View.{ty}
-use Rattle.spi_scope.specs.Forms.{type_form}
+use Rattle.spi_scope.specs.Forms.{TypeForm, tuple_ty_form, sum_form, other_type, type_form}
 use Rattle.spi_scope.specs.Meaning.{behind}
 use Rattle.spi_scope.specs.Table.{with_names}
 use Rattle.spi_scope.proofs.Tuples.{CountedType, CountedFields, CountedLast, naming, in_names, bound, tuple_counted, tuple_left}
@@ -50,9 +51,20 @@ read_tuple-returns-in_err-head-in-Tuple-clause-gives t c =
     let e : c.args.t.now ≡ Tuple w.parts w.span = w.is in
     rw (ap ty_of e ∙ tuple_ty_is w.parts w.span, ← ap (λ v. (out-TyParts v).first) c.deref.ensures) (search rules)
 
+-- a tuple type is no sum
+abbrev is_tuple_ty : TypeForm → Type 0
+is_tuple_ty tuple_ty_form = ⊤
+is_tuple_ty sum_form = ⊥
+is_tuple_ty other_type = ⊥
+
+pub read_sum-unreachable-requires : goal.read_sum-unreachable-requires
+read_sum-unreachable-requires t c =
+    let e : tuple_ty_form ≡ sum_form = sym (ap (λ x. type_form (ty_of x)) c.in-Tuple.is ∙ ap type_form (tuple_ty_is c.in-Tuple.parts c.in-Tuple.span)) ∙ c.requires in
+    subst is_tuple_ty e tt
+
 pub read_type-read_tuple-requires : goal.read_type-read_tuple-requires
 read_type-read_tuple-requires t c =
-    ap (λ x. type_form (ty_of x)) c.in-Tuple.is ∙ ap type_form (tuple_ty_is c.in-Tuple.parts c.in-Tuple.span)
+    (search rules, ap (λ x. type_form (ty_of x)) c.in-Tuple.is ∙ ap type_form (tuple_ty_is c.in-Tuple.parts c.in-Tuple.span))
 
 pub read_tuple-returns-in_err-fields-in-Tuple-clause-gives : goal.read_tuple-returns-in_err-fields-in-Tuple-clause-gives
 read_tuple-returns-in_err-fields-in-Tuple-clause-gives t c =
