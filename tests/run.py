@@ -9,7 +9,7 @@ for its first line: such a case has `first` in place of `output`, and tests/know
 file of examples/reasons is a case too: its first line is a comment with the line that `check` writes. Each case runs on
 each `--program FILE`; without one it runs on the build without proofs that tools/keep.py keeps. A program that hasn't
 ended after ten seconds has failed its case. The one that Rattle's own compiler makes (its name ends in .by-rattle) gets
-16 MB of stack: processes nested 500 deep take up to 12 there.
+16 MB of stack: processes nested 500 deep take up to 8 there.
 The last line is 'N passed, M failed'."""
 
 import argparse
