@@ -47,7 +47,7 @@ fn unless_same(found: &Msg, wanted: &Msg, another: &'static str) -> &'static str
 
 fn other_first(whole: &Msg, wanted: &Msg) -> &'static str {
     match whole {
-        Msg::Pair(two) => unless_same(&two.first, wanted, "; its &two.first part is another"),
+        Msg::Pair(two) => unless_same(&two.first, wanted, "; its first part is another"),
         _ => "; it is no pair",
     }
 }
@@ -62,7 +62,7 @@ fn no_side(whole: &Msg) -> &'static str {
 
 fn other_key(whole: &Msg, wanted: &Msg) -> &'static str {
     match whole {
-        Msg::Enc(sealed) => unless_same(&sealed.key, wanted, "; its &sealed.key is another"),
+        Msg::Enc(sealed) => unless_same(&sealed.key, wanted, "; its key is another"),
         _ => "; it is no ciphertext",
     }
 }
