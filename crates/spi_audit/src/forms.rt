@@ -8,9 +8,13 @@ ghost use Rattle.spi_audit.specs.Fits.{plain};
 ghost use Rattle.spi_audit.specs.Asked.{AnswersLeaf, AnswersPrefix, AnswersFork, AnswersNode, TakesUntrusted, TakesGood, TakesLabel};
 
 use crate::asked::{FittingPremises, Premises};
-use crate::opening::{asked, asked_untrusted, begun, begun_one, begun_opened, begun_two};
+use crate::opening::{
+    asked_at, asked_untrusted, begun, begun_one, begun_one_at, begun_opened_at, begun_two,
+    begun_two_at,
+};
+use spi_message::numbered::is_good;
 use spi_message::slices::{is_fresh_type, is_un_type};
-use spi_message::{Judge, is_good, is_labelled, key_type, nonce_at, pair_type, sum_type};
+use spi_message::{Judge, is_labelled, nonce_at};
 use spi_rules::Rule;
 use spi_term::{Form, Msg, Node, Ty};
 use std::alloc::Global;
@@ -22,8 +26,9 @@ fn takes_untrusted(alloc: Global, judge: &mut Judge, m: &Msg, ty: &Ty, body: u32
     ensures kept { IsKept judge.old judge.new }
 {
     if is_un_type(ty) {
-        let first = asked_untrusted(alloc, judge, m)?;
-        let next = begun_one(alloc, judge, ty, body)?;
+        let un = judge.ty(alloc, ty)?;
+        let first = asked_at(judge, m, un)?;
+        let next = begun_one_at(judge, un, body);
         Ok(Some(Premises::TwoPremises(first, next)))
     } else {
         Ok(None)
@@ -130,12 +135,14 @@ fn split_typed(
         (Term.Splits (message whole.now) (type_of first.now) (type_of second.now)) body) }
     ensures kept { IsKept judge.old judge.new }
 {
-    let both = pair_type(alloc, first, second)?;
-    if !is_good(alloc, judge, &both)? {
+    let a = judge.ty(alloc, first)?;
+    let b = judge.ty(alloc, second)?;
+    let both = judge.pair_over(a, b)?;
+    if !is_good(alloc, judge, both)? {
         return Ok(None);
     }
-    let pair = asked(alloc, judge, whole, &both)?;
-    let next = begun_two(alloc, judge, first, second, body)?;
+    let pair = asked_at(judge, whole, both)?;
+    let next = begun_two_at(alloc, judge, a, b, body)?;
     Ok(Some(Premises::TwoPremises(pair, next)))
 }
 
@@ -206,13 +213,15 @@ fn select_typed(
         body) }
     ensures kept { IsKept judge.old judge.new }
 {
-    let both = pair_type(alloc, first, second)?;
-    if !is_good(alloc, judge, &both)? {
+    let a = judge.ty(alloc, first)?;
+    let b = judge.ty(alloc, second)?;
+    let both = judge.pair_over(a, b)?;
+    if !is_good(alloc, judge, both)? {
         return Ok(None);
     }
-    let pair = asked(alloc, judge, whole, &both)?;
-    let part = asked(alloc, judge, equal, first)?;
-    let next = begun_opened(alloc, judge, second, equal, body)?;
+    let pair = asked_at(judge, whole, both)?;
+    let part = asked_at(judge, equal, a)?;
+    let next = begun_opened_at(alloc, judge, b, equal, body)?;
     Ok(Some(Premises::ThreePremises(pair, part, next)))
 }
 
@@ -287,16 +296,18 @@ fn branch_typed(
         (Term.Branches (message whole.now) (type_of left.now) (type_of right.now)) on_left on_right) }
     ensures kept { IsKept judge.old judge.new }
 {
-    if !is_good(alloc, judge, left)? {
+    let a = judge.ty(alloc, left)?;
+    let b = judge.ty(alloc, right)?;
+    if !is_good(alloc, judge, a)? {
         return Ok(None);
     }
-    if !is_good(alloc, judge, right)? {
+    if !is_good(alloc, judge, b)? {
         return Ok(None);
     }
-    let both = sum_type(alloc, left, right)?;
-    let sum = asked(alloc, judge, whole, &both)?;
-    let first = begun_one(alloc, judge, left, on_left)?;
-    let rest = begun_one(alloc, judge, right, on_right)?;
+    let both = judge.sum_over(a, b)?;
+    let sum = asked_at(judge, whole, both)?;
+    let first = begun_one_at(judge, a, on_left);
+    let rest = begun_one_at(judge, b, on_right);
     Ok(Some(Premises::ThreePremises(sum, first, rest)))
 }
 
@@ -376,13 +387,14 @@ fn decrypt_typed(
         (Term.Decrypts (message whole.now) (type_of ty.now) (message key.now)) body) }
     ensures kept { IsKept judge.old judge.new }
 {
-    if !is_good(alloc, judge, ty)? {
+    let id = judge.ty(alloc, ty)?;
+    if !is_good(alloc, judge, id)? {
         return Ok(None);
     }
-    let wanted = key_type(alloc, ty)?;
+    let wanted = judge.key_over(id)?;
     let sealed = asked_untrusted(alloc, judge, whole)?;
-    let by = asked(alloc, judge, key, &wanted)?;
-    let next = begun_one(alloc, judge, ty, body)?;
+    let by = asked_at(judge, key, wanted)?;
+    let next = begun_one_at(judge, id, body);
     Ok(Some(Premises::ThreePremises(sealed, by, next)))
 }
 
@@ -543,11 +555,12 @@ fn cast_good(alloc: Global, judge: &mut Judge, whole: &Msg, ty: &Ty, body: u32) 
     ensures answer { IfOk result (TakesGood judge.old judge.new (message whole.now) (type_of ty.now) body) }
     ensures kept { IsKept judge.old judge.new }
 {
-    if !is_good(alloc, judge, ty)? {
+    let id = judge.ty(alloc, ty)?;
+    if !is_good(alloc, judge, id)? {
         return Ok(None);
     }
     let first = asked_untrusted(alloc, judge, whole)?;
-    let next = begun_one(alloc, judge, ty, body)?;
+    let next = begun_one_at(judge, id, body);
     Ok(Some(Premises::TwoPremises(first, next)))
 }
 
@@ -596,10 +609,11 @@ fn fresh_good(alloc: Global, judge: &mut Judge, ty: &Ty, body: u32) -> FittingPr
     if !is_fresh_type(ty) {
         return Ok(None);
     }
-    if !is_good(alloc, judge, ty)? {
+    let id = judge.ty(alloc, ty)?;
+    if !is_good(alloc, judge, id)? {
         return Ok(None);
     }
-    let next = begun_one(alloc, judge, ty, body)?;
+    let next = begun_one_at(judge, id, body);
     Ok(Some(Premises::OnePremise(next)))
 }
 

@@ -247,7 +247,7 @@ pub fn walk_uses(
     let _ = process.len();
     let mut asked = Vec::new(alloc);
     asked.push(Asked::Process(0, judge.len(), Binding::Nothing))?;
-    let mut notes = Vec::new(alloc);
+    let mut notes = Vec::with_capacity(alloc, d.uses.len())?;
     for i in 0..d.uses.len() {
         let u = &d.uses[i];
         match step(alloc, judge, keys, process, u, &mut asked)? {

@@ -74,7 +74,7 @@ pub fn refusal_line(alloc: Global, bytes: &[u8], r: &Refusal) -> Result<Vec<u8>,
     requires within { IfSome r.now.offset (λ offset. offset ≤ length bytes.now) }
     ensures { IfOk result (λ line. line.items ≡ refused_text bytes.now r.now) }
 {
-    let lines = Lines::of(alloc, bytes)?;
+    let lines = Lines::for_few(bytes);
     refused(alloc, &lines, r)
 }
 

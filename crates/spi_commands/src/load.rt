@@ -8,6 +8,7 @@ ghost use Rattle.spi_scope.specs.StandsFor.{StandsFor};
 ghost use Rattle.spi_commands.specs.Loading.{LoadsTo};
 ghost use Rattle.spi_commands.specs.Run.{IsAnswered};
 
+use crate::afterwards::Afterwards;
 use crate::answer::{Answer, Stop};
 use crate::status::Status;
 use spi_deriv::{derive, one_canonical};
@@ -19,7 +20,7 @@ use std::alloc::Global;
 
 /// What `load` answers for so many sessions: it makes their file, resolves it, derives its process, and tells the nodes of
 /// the file and the rules of the derivation.
-pub fn loads(alloc: Global, k: u32) -> Result<Answer, Stop>
+pub fn loads(alloc: Global, afterwards: Afterwards, k: u32) -> Result<Answer, Stop>
     requires { (1 ≤ k) × (k ≤ 500) }
     ensures ok { IfOk result (λ answer. LoadsTo k answer.status answer.output.items) }
     ensures answered { IfOk result (λ answer. IsAnswered answer.status × (answer.status ≢ Status.Usage)) }
@@ -27,7 +28,12 @@ pub fn loads(alloc: Global, k: u32) -> Result<Answer, Stop>
 {
     let tree = sessions(alloc, k)?;
     match resolve(alloc, &tree) {
-        Ok(file) => judged(alloc, k, &file),
+        Ok(file) => {
+            afterwards.let_go(tree);
+            let answer = judged(alloc, k, &file);
+            afterwards.let_go(file);
+            answer
+        }
         Err(fault) => Err(stopped(&fault)),
     }
 }

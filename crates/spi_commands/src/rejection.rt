@@ -55,7 +55,7 @@ pub fn fault_line(alloc: Global, bytes: &[u8], file: &File, fault: &Fault) -> Re
         (λ i. reverse (chain_at file.now.marks.scopes i)) (told fault.now))) }
     ensures err { OnErr result (result ≡ Err Stop.NoMemory) }
 {
-    let lines = Lines::of(alloc, bytes)?;
+    let lines = Lines::for_few(bytes);
     let output = no_fault(alloc, file, &lines, fault)?;
     Ok(answer_with(Status::No, output))
 }

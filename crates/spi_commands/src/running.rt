@@ -250,7 +250,7 @@ fn answer_to<S: Source>(
     match command {
         None => made(alloc, Status::Usage, USAGE),
         Some(asked) => match asked {
-            Command::Load { sessions } => loads(alloc, sessions),
+            Command::Load { sessions } => loads(alloc, afterwards, sessions),
             _ => answers(alloc, afterwards, asked, take_text(alloc, source)?, players),
         },
     }

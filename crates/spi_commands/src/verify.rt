@@ -60,7 +60,7 @@ fn wrong(alloc: Global, bytes: &[u8], file: &File, index: u32) -> Result<Answer,
         (λ answer. (answer.status ≡ Status.No) × IsUnprovedLine bytes.now answer.output.items) }
     ensures err { OnErr result (result ≡ Err Stop.NoMemory) }
 {
-    let lines = Lines::of(alloc, bytes)?;
+    let lines = Lines::for_few(bytes);
     let output = wrong_step(alloc, file, &lines, index)?;
     Ok(answer_with(Status::No, output))
 }

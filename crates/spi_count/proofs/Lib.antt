@@ -5,3 +5,4 @@ pub mod Kept
 pub mod Merging
 pub mod Below
 pub mod Waiting
+pub mod Piled

@@ -68,6 +68,30 @@ pile_of_sum e h = record {
   kept = λ kind k g. h.kept kind k (subst (λ n. 0 < n) (e kind k) g);
 }
 
+kind_back : (kind : AtomKind) (m : Message) → kind_of_atom (atom_of_kind kind m) ≡ kind
+kind_back End m = refl
+kind_back Check m = refl
+kind_back Many m = refl
+
+message_back : (kind : AtomKind) (m : Message) → message_of (atom_of_kind kind m) ≡ m
+message_back End m = refl
+message_back Check m = refl
+message_back Many m = refl
+
+-- an atom of each count that is kept
+pub atom_kept : (At : ℕ → Message → Type 0) (f : AtomKind → ℕ → ℕ) (es : Effect)
+    → ((a : Atom) (i : ℕ) → At i (message_of a) → f (kind_of_atom a) (key_of (name_bound (message_of a)) i) ≡ count a es)
+    → (kind : AtomKind) (k : ℕ) → 0 < f kind k → (i : ℕ) × (m : Message) × At i m × (k ≡ key_of (name_bound m) i)
+    → (m : Message) × In (atom_of_kind kind m) es × ((i : ℕ) × At i (message_of (atom_of_kind kind m)) × (k ≡ key_of (name_bound (message_of (atom_of_kind kind m))) i))
+atom_kept At f es counted kind k p w =
+    let (i, m, g, e) = w in
+    let a = atom_of_kind kind m in
+    let mb = message_back kind m in
+    let g' = subst (At i) (sym mb) g in let c = counted a i g' in
+    let e' : k ≡ key_of (name_bound (message_of a)) i = e ∙ ap (λ m. key_of (name_bound m) i) (sym mb) in
+    let q : 0 < count a es = subst (λ x. 0 < x) (ap (λ d. f d k) (sym (kind_back kind m)) ∙ ap (f (kind_of_atom a)) e' ∙ c) p in
+    (m, count_in a es q, (i, g', e'))
+
 module _ (At : ℕ → Message → Type 0) (numbers : AreNumbers At) where
   -- the count of an atom
   abbrev pub held : Sum → Atom → ℕ → ℕ
@@ -319,27 +343,10 @@ module _ (At : ℕ → Message → Type 0) (numbers : AreNumbers At) where
   pub stands_many : {s : Sum} {es : Effect} → StandsForEffect At s es → IsNothing (part End s) → IsNothing (part Check s) → are_many es ≡ true
   stands_many {es = es} h e c = are_many_complete es (AllMany_of es (nothing_once h e c))
 
-  kind_back : (kind : AtomKind) (m : Message) → kind_of_atom (atom_of_kind kind m) ≡ kind
-  kind_back End m = refl
-  kind_back Check m = refl
-  kind_back Many m = refl
-
-  message_back : (kind : AtomKind) (m : Message) → message_of (atom_of_kind kind m) ≡ m
-  message_back End m = refl
-  message_back Check m = refl
-  message_back Many m = refl
-
   -- an atom of each count that is kept
   kept_atom : {s : Sum} {es : Effect} → StandsForEffect At s es → (kind : AtomKind) (k : ℕ) → 0 < count_of (part kind s) k
       → (m : Message) × In (atom_of_kind kind m) es × ((i : ℕ) × At i (message_of (atom_of_kind kind m)) × (k ≡ key_of (name_bound (message_of (atom_of_kind kind m))) i))
-  kept_atom {s} {es} h kind k p =
-      let (i, m, g, e) = h.kept kind k p in
-      let a = atom_of_kind kind m in
-      let mb = message_back kind m in
-      let g' = subst (At i) (sym mb) g in let c = h.counted a i g' in
-      let e' : k ≡ key_of (name_bound (message_of a)) i = e ∙ ap (λ m. key_of (name_bound m) i) (sym mb) in
-      let q : 0 < count a es = subst (λ x. 0 < x) (ap (λ d. count_of (part d s) k) (sym (kind_back kind m)) ∙ ap (count_of (part (kind_of_atom a) s)) e' ∙ c) p in
-      (m, count_in a es q, (i, g', e'))
+  kept_atom {s} {es} h kind k p = atom_kept At (λ kind q. count_of (part kind s) q) es h.counted kind k p (h.kept kind k p)
 
   pub kept_in : {s : Sum} {es : Effect} → StandsForEffect At s es → (kind : AtomKind) (k : ℕ) → 0 < count_of (part kind s) k
       → (a : Atom) × In a es × ((i : ℕ) × At i (message_of a) × (k ≡ key_of (name_bound (message_of a)) i))
@@ -395,19 +402,36 @@ in_mentions x a [] n e = elim n [ ]
 in_mentions x a (b ∷ es) in_first e = or_left (is_free_at x a) (mentions x es) (free_at x a ∙ bound_is_free x (message_of a) e)
 in_mentions x a (b ∷ es) (in_later n) e = or_right (is_free_at x b) (mentions x es) (in_mentions x a es n e)
 
-module _ (At : ℕ → Message → Type 0) (numbers : AreNumbers At) {s : Sum} {es : Effect} (h : StandsForEffect At s es) (n : ℕ) where
+module _ (At : ℕ → Message → Type 0) (numbers : AreNumbers At) (f : AtomKind → ℕ → ℕ) (es : Effect)
+    (counted : (a : Atom) (i : ℕ) → At i (message_of a) → f (kind_of_atom a) (key_of (name_bound (message_of a)) i) ≡ count a es) (n : ℕ) where
   -- no key from that of n + 1 on is counted: each name is below n
-  pub unreached_below : ((kind : AtomKind) (k : ℕ) → 0 < count_of (part kind s) k → k < (n + 1) * 4294967296) → Below n es
-  unreached_below f a i =
-      let (j, g) = h.known a i in
-      let c = h.counted a j g in
+  unreached_by : ((a : Atom) → In a es → (i : ℕ) × At i (message_of a)) → ((kind : AtomKind) (k : ℕ) → 0 < f kind k → k < (n + 1) * 4294967296) → Below n es
+  unreached_by known u a i =
+      let (j, g) = known a i in
+      let c = counted a j g in
       let p = (count_tally a (tally a es)).1 (in_tally i) in
-      let l = f (kind_of_atom a) (key_of (name_bound (message_of a)) j) (omega (arith, c, p)) in
+      let l = u (kind_of_atom a) (key_of (name_bound (message_of a)) j) (omega (arith, c, p)) in
       omega (arith, l)
 
   -- such a key is counted: an atom has a name from n on
+  reached_by : (kind : AtomKind) (k : ℕ) → 0 < f kind k → (i : ℕ) × (m : Message) × At i m × (k ≡ key_of (name_bound m) i) → (n + 1) * 4294967296 ≤ k
+      → (a : Atom) × In a es × (n + 1 ≤ name_bound (message_of a))
+  reached_by kind k p w l =
+      let (m, i, (j, g, e)) = atom_kept At f es counted kind k p w in
+      let s = numbers.small g in
+      (atom_of_kind kind m, i, omega (arith, e, l, s))
+
+module _ (At : ℕ → Message → Type 0) (numbers : AreNumbers At) {s : Sum} {es : Effect} (h : StandsForEffect At s es) (n : ℕ) where
+  pub unreached_below : ((kind : AtomKind) (k : ℕ) → 0 < count_of (part kind s) k → k < (n + 1) * 4294967296) → Below n es
+  unreached_below u = unreached_by At numbers (λ kind q. count_of (part kind s) q) es h.counted n h.known u
+
   pub reached_in : (kind : AtomKind) (k : ℕ) → 0 < count_of (part kind s) k → (n + 1) * 4294967296 ≤ k → (a : Atom) × In a es × (n + 1 ≤ name_bound (message_of a))
-  reached_in kind k p l =
-      let (a, i, (j, g, e)) = kept_in At numbers h kind k p in
-      let m = numbers.small g in
-      (a, i, omega (arith, e, l, m))
+  reached_in kind k p l = reached_by At numbers (λ kind q. count_of (part kind s) q) es h.counted n kind k p (h.kept kind k p) l
+
+-- the same where atoms wait
+module _ (At : ℕ → Message → Type 0) (numbers : AreNumbers At) {p : Pile} {es : Effect} (h : StandsForPile At p es) (n : ℕ) where
+  pub pile_unreached : ((kind : AtomKind) (k : ℕ) → 0 < piled kind p k → k < (n + 1) * 4294967296) → Below n es
+  pile_unreached u = unreached_by At numbers (λ kind q. piled kind p q) es h.counted n h.known u
+
+  pub pile_reached : (kind : AtomKind) (k : ℕ) → 0 < piled kind p k → (n + 1) * 4294967296 ≤ k → (a : Atom) × In a es × (n + 1 ≤ name_bound (message_of a))
+  pile_reached kind k q l = reached_by At numbers (λ kind q. piled kind p q) es h.counted n kind k q (h.kept kind k q) l

@@ -18,7 +18,7 @@ use Rattle.spi_intern.specs.declared.store.TyPart.{TyPart}
 use Rattle.spi_intern.specs.declared.store.TyPart.TheVariants as P
 use Rattle.spi_intern.specs.Lent.{SaysTy, says_un, says_unit, says_pair, says_sum, says_key, says_nonce}
 use Rattle.spi_intern.specs.Table.{TellsAll, tells_none, tells_next}
-use Rattle.spi_intern.specs.Atoms.{says_end, says_check, says_many}
+use Rattle.spi_intern.specs.Atoms.{SaysAtom, says_end, says_check, says_many}
 use Rattle.spi_count.specs.Counts.{count_of}
 use Rattle.spi_count.specs.Sums.{name_bound, key_of, kind_of_atom, part, one_more, Puts, AreNumbers}
 use Rattle.spi_count.specs.declared.sum.AtomKind.{AtomKind}
@@ -49,7 +49,7 @@ module _ {s : Store} {keys : Keys} (k : IsKeyed s keys) where
   numbers = record { small = small_at; differ = differ_at; one = one_at }
 
   -- a key that is kept
-  found : (i key : ℕ) (m : Message) → get nat_eq keys.keys i ≡ Some key → slice_get s.messages i ≡ Some m → with_keys s keys i m × (key ≡ key_of (name_bound m) i)
+  pub found : (i key : ℕ) (m : Message) → get nat_eq keys.keys i ≡ Some key → slice_get s.messages i ≡ Some m → with_keys s keys i m × (key ≡ key_of (name_bound m) i)
   found i key m g at =
       let (n, h) = k.keyed.keyed i key g in
       let e : n ≡ m = some_is (sym h.at ∙ at) in
@@ -57,7 +57,7 @@ module _ {s : Store} {keys : Keys} (k : IsKeyed s keys) where
       (w, some_is (sym g ∙ w.key))
 
   -- the key of a message that has one
-  kept_at : (i : ℕ) (m : Message) → slice_get s.messages i ≡ Some m → HasKey s keys m → with_keys s keys i m
+  pub kept_at : (i : ℕ) (m : Message) → slice_get s.messages i ≡ Some m → HasKey s keys m → with_keys s keys i m
   kept_at i m at h = subst (λ i. with_keys s keys i m) (place_is h.1.at at) h.1
 
   adds_at : {old new : Sum} (i : ℕ) (b : Atom) (es : Effect)
@@ -138,31 +138,60 @@ pub minus_append : (es fs gs : Effect) → minus es (fs ++ gs) ≡ minus (minus 
 minus_append es [] gs = refl
 minus_append es (f ∷ fs) gs = minus_append (less_one f es) fs gs
 
-pub adds_none : (keys : Keys) (sum : Sum) → AddsAll keys [] sum sum
-adds_none keys sum s _ es k tells_none h t = subst (SumOf s keys sum) (sym (append-nil es)) t
+-- atoms of a list, where X stands for effects as Of says
+module _ {X : Type 0} (Of : Store → Keys → X → Effect → Type 0) where
+  abbrev pub OneIn : Keys → AtomId → X → X → Type 0
+  OneIn keys a old new =
+      (s : Store) (b : Atom) (es : Effect) → IsKeyed s keys → SaysAtom s.messages a b
+      → HasKey s keys (message_of b) → Of s keys old es → Of s keys new (es ++ b ∷ [])
 
-pub takes_none : (keys : Keys) (sum : Sum) → TakesAll keys [] sum sum
-takes_none keys sum s _ es k tells_none t = t
+  abbrev pub OneOut : Keys → AtomId → X → X → Type 0
+  OneOut keys a old new =
+      (s : Store) (b : Atom) (es : Effect) → IsKeyed s keys → SaysAtom s.messages a b → Of s keys old es
+      → Of s keys new (minus es (b ∷ []))
 
-pub adds_more : (keys : Keys) (ids js : List AtomId) (a : AtomId) (old mid new : Sum) → js ≡ ids ++ a ∷ [] → AddsAll keys ids old mid → AddsAtom keys a mid new → AddsAll keys js old new
-adds_more keys ids js a old mid new e p q = subst (λ js. AddsAll keys js old new) (sym e) go
-  where
-    go : AddsAll keys (ids ++ a ∷ []) old new
-    go s fs es k t h st =
-        let x = tells_end ids a fs t in
-        let y = p s x.front es k x.tells (λ c n. h c (subst (In c) (sym x.is) (in_left (x.last ∷ []) n))) st in
-        let z = q s x.last (es ++ x.front) k x.says (h x.last (subst (In x.last) (sym x.is) (in_end x.front x.last))) y in
-        subst (λ fs. SumOf s keys new (es ++ fs)) (sym x.is) (subst (SumOf s keys new) (append_assoc es x.front (x.last ∷ [])) z)
+  abbrev pub AllIn : Keys → List AtomId → X → X → Type 0
+  AllIn keys ids old new =
+      (s : Store) (fs es : Effect) → IsKeyed s keys → TellsAll (SaysAtom s.messages) ids fs → HaveKeys s keys fs
+      → Of s keys old es → Of s keys new (es ++ fs)
 
-pub takes_more : (keys : Keys) (ids js : List AtomId) (a : AtomId) (old mid new : Sum) → js ≡ ids ++ a ∷ [] → TakesAll keys ids old mid → TakesAtom keys a mid new → TakesAll keys js old new
-takes_more keys ids js a old mid new e p q = subst (λ js. TakesAll keys js old new) (sym e) go
-  where
-    go : TakesAll keys (ids ++ a ∷ []) old new
-    go s fs es k t st =
-        let x = tells_end ids a fs t in
-        let y = p s x.front es k x.tells st in
-        let z = q s x.last (minus es x.front) k x.says y in
-        subst (λ fs. SumOf s keys new (minus es fs)) (sym x.is) (subst (SumOf s keys new) (sym (minus_append es x.front (x.last ∷ []))) z)
+  abbrev pub AllOut : Keys → List AtomId → X → X → Type 0
+  AllOut keys ids old new =
+      (s : Store) (fs es : Effect) → IsKeyed s keys → TellsAll (SaysAtom s.messages) ids fs
+      → Of s keys old es → Of s keys new (minus es fs)
+
+  pub adds_none : (keys : Keys) (x : X) → AllIn keys [] x x
+  adds_none keys x s _ es k tells_none h t = subst (Of s keys x) (sym (append-nil es)) t
+
+  pub takes_none : (keys : Keys) (x : X) → AllOut keys [] x x
+  takes_none keys x s _ es k tells_none t = t
+
+  pub adds_more : (keys : Keys) (ids js : List AtomId) (a : AtomId) (old mid new : X) → js ≡ ids ++ a ∷ [] → AllIn keys ids old mid → OneIn keys a mid new → AllIn keys js old new
+  adds_more keys ids js a old mid new e p q = subst (λ js. AllIn keys js old new) (sym e) go
+    where
+      go : AllIn keys (ids ++ a ∷ []) old new
+      go s fs es k t h st =
+          let x = tells_end ids a fs t in
+          let y = p s x.front es k x.tells (λ c n. h c (subst (In c) (sym x.is) (in_left (x.last ∷ []) n))) st in
+          let z = q s x.last (es ++ x.front) k x.says (h x.last (subst (In x.last) (sym x.is) (in_end x.front x.last))) y in
+          subst (λ fs. Of s keys new (es ++ fs)) (sym x.is) (subst (Of s keys new) (append_assoc es x.front (x.last ∷ [])) z)
+
+  pub takes_more : (keys : Keys) (ids js : List AtomId) (a : AtomId) (old mid new : X) → js ≡ ids ++ a ∷ [] → AllOut keys ids old mid → OneOut keys a mid new → AllOut keys js old new
+  takes_more keys ids js a old mid new e p q = subst (λ js. AllOut keys js old new) (sym e) go
+    where
+      go : AllOut keys (ids ++ a ∷ []) old new
+      go s fs es k t st =
+          let x = tells_end ids a fs t in
+          let y = p s x.front es k x.tells st in
+          let z = q s x.last (minus es x.front) k x.says y in
+          subst (λ fs. Of s keys new (minus es fs)) (sym x.is) (subst (Of s keys new) (sym (minus_append es x.front (x.last ∷ []))) z)
+
+  -- no atom
+  pub adds_quiet : (s : Store) (keys : Keys) (x : X) (es fs : Effect) → fs ≡ [] → Of s keys x es → Of s keys x (es ++ fs)
+  adds_quiet s keys x es fs e t = subst (λ fs. Of s keys x (es ++ fs)) (sym e) (subst (Of s keys x) (sym (append-nil es)) t)
+
+  pub takes_quiet : (s : Store) (keys : Keys) (x : X) (es fs : Effect) → fs ≡ [] → Of s keys x es → Of s keys x (minus es fs)
+  takes_quiet s keys x es fs e t = subst (λ fs. Of s keys x (minus es fs)) (sym e) t
 
 -- the effect of a type that the store lends
 abbrev pub HasNoEffect : TyPart → Type 0
@@ -180,12 +209,6 @@ no_effect _ _ q (says_pair g h) = refl
 no_effect _ _ q (says_sum g h) = refl
 no_effect _ _ q (says_key g) = refl
 no_effect _ _ q (says_nonce m) = absurd q
-
-pub adds_quiet : (s : Store) (keys : Keys) (sum : Sum) (es fs : Effect) → fs ≡ [] → SumOf s keys sum es → SumOf s keys sum (es ++ fs)
-adds_quiet s keys sum es fs e t = subst (λ fs. SumOf s keys sum (es ++ fs)) (sym e) (subst (SumOf s keys sum) (sym (append-nil es)) t)
-
-pub takes_quiet : (s : Store) (keys : Keys) (sum : Sum) (es fs : Effect) → fs ≡ [] → SumOf s keys sum es → SumOf s keys sum (minus es fs)
-takes_quiet s keys sum es fs e t = subst (λ fs. SumOf s keys sum (minus es fs)) (sym e) t
 
 pub adds_said : {s : Store} {keys : Keys} (ids : Bor (List AtomId)) (old new : Sum) (u : Ty) (es : Effect) → IsKeyed s keys → SaysTy s (P.Nonce ids) u → AddsAll keys ids.now old new → HaveKeys s keys (cast_effect_of u) → SumOf s keys old es → SumOf s keys new (es ++ cast_effect_of u)
 adds_said {s} {keys} ids old new _ es k (says_nonce {es = fs} m) p h t =

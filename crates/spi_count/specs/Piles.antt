@@ -22,6 +22,10 @@ is_kind Many End = false
 is_kind Many Check = false
 is_kind Many Many = true
 
+-- how often an atom of that kind with that key stands at a key
+abbrev pub once : AtomKind → ℕ → AtomKind → ℕ → ℕ
+once kind key l q = if is_kind l kind then (if eqb key q then 1 else 0) else 0
+
 -- how often an atom that waits stands at a key
 abbrev pub waits_once : AtomKind → Late → ℕ → ℕ
 waits_once kind w q = if is_kind kind w.kind then (if eqb w.key q then w.count else 0) else 0

@@ -69,7 +69,7 @@ pub fn add_atoms(keys: &Keys, ids: &[AtomId], sum: &mut Sum) -> Result<(), NoMem
 }
 
 // Atoms go out, each where it stands there.
-fn take_atoms(keys: &Keys, ids: &[AtomId], sum: &mut Sum)
+pub(crate) fn take_atoms(keys: &Keys, ids: &[AtomId], sum: &mut Sum)
     ensures { TakesAll keys.now ids.now sum.old sum.new }
 {
     for a in ids {

@@ -1,5 +1,5 @@
 // The keys of messages, by their numbers in a store.
-ghost use Rattle.std.specs.Prelude.{◌≡◌, ◌+◌, ◌<◌, ℕ, eqb, if◌then◌else◌, Some, None, OnOk, nat_eq};
+ghost use Rattle.std.specs.Prelude.{◌≡◌, ◌+◌, ◌<◌, ℕ, eqb, if◌then◌else◌, Some, None, IfSome, OnOk, nat_eq};
 ghost use Rattle.spi_term.specs.View.{message};
 ghost use Rattle.indexmap.specs.IndexMap.{get};
 ghost use Rattle.spi_count.specs.Sums.{name_bound, key_of};
@@ -10,10 +10,16 @@ use spi_intern::MsgId;
 use spi_term::Msg;
 use std::alloc::{AllocError, Global};
 
+// How many slots are guessed.
+const GUESSES: usize = 1024;
+
 /// The keys of messages that may stand in effects, by their numbers.
 #[derive(Drop)]
 pub struct Keys {
     keys: IndexMap<usize, u64>,
+    /// In which slot of the table a key may stand, so that it needn't be looked for. What stands there is looked at before
+    /// it's believed.
+    slots: Vec<u32>,
 }
 
 // The least number above the names of a message.
@@ -39,14 +45,37 @@ impl Keys {
     {
         Keys {
             keys: IndexMap::new(alloc),
+            slots: Vec::new(alloc),
         }
     }
 
+    // The key of the message in this place, where it stands in the slot that is guessed.
+    #[inline(always)]
+    fn guessed(&self, place: usize) -> Option<u64>
+        ensures { IfSome result (λ key. get nat_eq self.now.keys place ≡ Some key) }
+    {
+        let slot = self.slots.get(place % GUESSES)?;
+        let (known, key) = self.keys.get_index(*slot as usize)?;
+        if *known == place { Some(*key) } else { None }
+    }
+
+    // The key of the message in this place, which is looked for.
+    #[inline(never)]
+    fn looked_up(&self, place: usize) -> Option<u64>
+        ensures { result ≡ get nat_eq self.now.keys place }
+    {
+        self.keys.get(&place).copied()
+    }
+
     /// The key of the message with this number, where it has one.
+    #[inline(always)]
     pub fn key(&self, id: MsgId) -> Option<u64>
         ensures { result ≡ get nat_eq self.now.keys id.place }
     {
-        self.keys.get(&id.place()).copied()
+        match self.guessed(id.place()) {
+            Some(key) => Some(key),
+            None => self.looked_up(id.place()),
+        }
     }
 
     /// The number in this place, where its message has a key.
@@ -74,8 +103,22 @@ impl Keys {
         if place >= 4_294_967_296 || above >= 4_294_967_296 {
             return Err(AllocError);
         }
+        let slot = self.keys.len();
         self.keys
             .insert(place, above * 4_294_967_296 + place as u64)?;
+        if slot < self.keys.len() {
+            self.guess(place, slot);
+        }
         Ok(())
+    }
+
+    // The slot is guessed for this place, as far as there is room.
+    fn guess(&mut self, place: usize, slot: usize)
+        ensures { self.new.keys ≡ self.old.keys }
+    {
+        let at = place % GUESSES;
+        if at < self.slots.len() || self.slots.resize(GUESSES, 0).is_ok() {
+            self.slots[at] = (slot & 0xffff_ffff) as u32;
+        }
     }
 }

@@ -7,6 +7,7 @@ mod counts;
 mod keeping;
 mod keys;
 mod pile;
+mod piling;
 mod reading;
 mod sum;
 
@@ -15,7 +16,8 @@ pub use counts::Counts;
 pub use keeping::{keep_atoms, keep_message};
 pub use keys::Keys;
 pub use pile::{Late, Pile};
-pub use reading::effect_of_sum;
+pub use piling::{drop_atom, drop_type, put_atom, put_type};
+pub use reading::{effect_of_pile, effect_of_sum};
 use std::alloc::AllocError;
 pub use sum::{AtomKind, Sum};
 

@@ -298,8 +298,8 @@ impl Sum {
         }
     }
 
-    // Takes the greater count of each atom.
-    fn rise_to(&mut self, other: Sum) -> Result<(), NoMemory>
+    /// Takes the greater count of each atom.
+    pub fn rise_to(&mut self, other: Sum) -> Result<(), NoMemory>
         ensures { OnOk result
             ((kind : AtomKind) (k : ℕ)
             → count_of (part kind self.new) k

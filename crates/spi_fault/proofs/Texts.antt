@@ -1,5 +1,5 @@
 -- The atom whose report form is least, as the atoms are gone through.
-use Rattle.std.proofs.Common.{◌≡◌, ◌≢◌, ◌⊎◌, inl, inr, ⊎_elim, refl, sym, ap, ap₂, ◌∙◌, subst, ℕ, zero, suc, ◌+◌, ◌≤◌, List, [], ◌∷◌, ◌++◌, length, take, map, Option, Some, None, arith}
+use Rattle.std.proofs.Common.{◌≡◌, ◌≢◌, ◌==◌, Bool, false, ◌-◌, ◌<◌, ◌⊎◌, inl, inr, ⊎_elim, refl, sym, ap, ◌∙◌, subst, ℕ, zero, suc, ◌+◌, ◌≤◌, List, [], ◌∷◌, ◌++◌, length, take, map, Option, Some, None, arith}
 use Rattle.std.specs.Prelude.{slice_get}
 use Rattle.std.specs.Global.{Vec}
 use Rattle.std.specs.Cmp.Lexicographic.{slice_cmp}
@@ -8,7 +8,7 @@ use Rattle.std.specs.declared.cmp.Ordering.{Ordering}
 use Rattle.std.specs.declared.cmp.Ordering.TheVariants.{Less, Equal, Greater}
 use Rattle.std.proofs.lemmas.Cmp.{nat_list_cmp_total}
 use Rattle.spi_term.specs.Lists.{In}
-use Rattle.spi_term.proofs.Lists.{in_append, in_none, in_one, get_append, get_last, get_in}
+use Rattle.spi_term.proofs.Lists.{in_append, in_none, in_one, get_in, get_map}
 use Rattle.spi_term.specs.declared.term.Atom as Declared
 use Rattle.spi_term.specs.Term.{Atom, Effect}
 use Rattle.spi_term.specs.View.{atom}
@@ -44,15 +44,9 @@ below xs ys zs h g = by (text_cmp ys zs) refl
         let c : Greater ≡ Less = sym h ∙ b ∙ a in
         cc
 
-module _ (names : List (List ℕ)) (P : Atom → Type 0) (es : List Atom) (a : Atom) where
+module _ (names : List (List ℕ)) (P : Atom → Type 0) (all es : List Atom) (a : Atom) where
   more : {b : Atom} → In b (es ++ a ∷ []) → In b es ⊎ (b ≡ a)
   more i = ⊎_elim (λ (i : In _ es). inl i) (λ (i : In _ (a ∷ [])). inr (in_one i)) (in_append es i)
-
-  -- an atom that is not of the kind changes nothing
-  pub best_skip : (o : Option (ℕ × Vec ℕ)) → (P a → ⊥) → IsBest names P es o → IsBest names P (es ++ a ∷ []) o
-  best_skip None n h = λ b i p. ⊎_elim (λ (i : In b es). h b i p) (λ (e : b ≡ a). n (subst P e p)) (more i)
-  best_skip (Some (j, text)) n (x, at, is, t, least) =
-      (x, get_append es (a ∷ []) j x at, is, t, λ b i p. ⊎_elim (λ (i : In b es). least b i p) (λ (e : b ≡ a). absurd (n (subst P e p))) (more i))
 
   abbrev Above : Atom → Type 0
   Above x = (b : Atom) → In b (es ++ a ∷ []) → P b → slice_cmp nat_cmp (reported_atom names x) (reported_atom names b) ≢ Greater
@@ -61,22 +55,33 @@ module _ (names : List (List ℕ)) (P : Atom → Type 0) (es : List Atom) (a : A
   above_itself h b i p =
       ⊎_elim (λ (i : In b es). h b i p) (λ (e : b ≡ a). subst (λ b. slice_cmp nat_cmp (reported_atom names a) (reported_atom names b) ≢ Greater) (sym e) (self_not (reported_atom names a))) (more i)
 
-  -- one of the kind takes the place of a greater one
-  pub best_more : (i : ℕ) (text : Vec ℕ) (o r : Option (ℕ × Vec ℕ)) → P a → i ≡ length es → text.items ≡ reported_atom names a → IsBetter o i text r → IsBest names P es o → IsBest names P (es ++ a ∷ []) r
-  best_more i text None r is at t better h =
-      subst (IsBest names P (es ++ a ∷ [])) (sym better) (a, ap (slice_get (es ++ a ∷ [])) at ∙ get_last es a, is, t, above_itself (λ b i p. absurd (h b i p)))
-  best_more i text (Some (j, old)) r is at t (inl (g, e)) (x, place, was, u, least) =
-      subst (IsBest names P (es ++ a ∷ [])) (sym e) (a, ap (slice_get (es ++ a ∷ [])) at ∙ get_last es a, is, t, above_itself (λ b i p. below (reported_atom names a) (reported_atom names x) (reported_atom names b) (ap₂ text_cmp (sym u) (sym t) ∙ g) (least b i p)))
-  best_more i text (Some (j, old)) r is at t (inr (g, e)) (x, place, was, u, least) =
-      subst (IsBest names P (es ++ a ∷ [])) (sym e) (x, get_append es (a ∷ []) j x place, was, u, λ b i p. ⊎_elim (λ (i : In b es). least b i p) (λ (e : b ≡ a). subst (λ b. text_cmp (reported_atom names x) (reported_atom names b) ≢ Greater) (sym e) (λ k. g (ap₂ text_cmp u t ∙ k))) (more i))
+  -- one that is not better changes nothing
+  pub best_keeps : (o : Option (ℕ × Vec ℕ)) → (IsBetter names P o a → ⊥) → IsBest names P all es o → IsBest names P all (es ++ a ∷ []) o
+  best_keeps None n h = λ b i p. ⊎_elim (λ (i : In b es). h b i p) (λ (e : b ≡ a). n (subst P e p)) (more i)
+  best_keeps (Some (j, text)) n (x, at, is, t, least) =
+      (x, at, is, t, λ b i p. ⊎_elim (λ (i : In b es). least b i p) (λ (e : b ≡ a). subst (λ b. text_cmp (reported_atom names x) (reported_atom names b) ≢ Greater) (sym e) (λ k. n (subst P e p, ap (λ l. text_cmp l (reported_atom names a)) t ∙ k))) (more i))
 
-pub best_place : (names : List (List ℕ)) (P : Atom → Type 0) (es : List Atom) (o : Option (ℕ × Vec ℕ)) → IsBest names P es o → IsPlaceOfLeast names P es (tried_place o)
+  -- a better one is the best
+  pub best_takes : (i : ℕ) (text : Vec ℕ) (o : Option (ℕ × Vec ℕ)) → IsBetter names P o a → slice_get all i ≡ Some a → text.items ≡ reported_atom names a → IsBest names P all es o → IsBest names P all (es ++ a ∷ []) (Some (i, text))
+  best_takes i text None is at t h = (a, at, is, t, above_itself (λ b i p. absurd (h b i p)))
+  best_takes i text (Some (j, old)) (is, g) at t (x, place, was, u, least) =
+      (a, at, is, t, above_itself (λ b i p. below (reported_atom names a) (reported_atom names x) (reported_atom names b) (ap (λ l. text_cmp l (reported_atom names a)) (sym u) ∙ g) (least b i p)))
+
+pub best_place : (names : List (List ℕ)) (P : Atom → Type 0) (es : List Atom) (o : Option (ℕ × Vec ℕ)) → IsBest names P es es o → IsPlaceOfLeast names P es (tried_place o)
 best_place names P es None h = h
 best_place names P es (Some (j, text)) (x, at, is, t, least) = (x, at, record { is = (get_in es j x at, is); least = λ b z. least b z.0 z.1 })
 
--- one more atom is gone through
-pub best_none : (names : List (List ℕ)) (P : Atom → Type 0) → IsBest names P [] None
-best_none names P = λ b i p. in_none i
+-- where no atom was looked at, each is the best
+pub best_none : (names : List (List ℕ)) (P : Atom → Type 0) (all : List Atom) → IsBest names P all [] None
+best_none names P all = λ b i p. in_none i
+
+pub best_last : (names : List (List ℕ)) (P : Atom → Type 0) (atoms : List Declared.Atom) (i : ℕ) (a : Declared.Atom) (text : Vec ℕ) → slice_get atoms i ≡ Some a → P (atom a) → text.items ≡ reported_atom names (atom a) → IsBest names P (map atom atoms) [] (Some (i, text))
+best_last names P atoms i a text at is t = (atom a, get_map atom atoms i at, is, t, λ b k p. absurd (in_none k))
+
+-- a list that is not empty has a last place
+pub some_place : {A : Type 0} (xs : List A) (b : Bool) → b ≡ (length xs == 0) → b ≡ false → length xs - 1 < length xs
+some_place [] b e f = absurd (cc)
+some_place (x ∷ xs) b e f = omega arith
 
 take_more : {A B : Type 0} (f : A → B) (xs : List A) (i : ℕ) (x : A) → slice_get xs i ≡ Some x → take (i + 1) (map f xs) ≡ take i (map f xs) ++ f x ∷ []
 take_more f [] i x h = absurd (cc)
@@ -84,11 +89,6 @@ take_more f (y ∷ xs) zero x h = let e : y ≡ x = cc in ap (λ y. f y ∷ []) 
 take_more f (y ∷ xs) (suc i) x h =
     let z : suc i + 1 ≡ suc (i + 1) = omega arith in
     ap (λ n. take n (map f (y ∷ xs))) z ∙ ap (λ l. f y ∷ l) (take_more f xs i x h)
-
-length_taken : {A B : Type 0} (f : A → B) (xs : List A) (i : ℕ) → i ≤ length xs → i ≡ length (take i (map f xs))
-length_taken f xs zero l = refl
-length_taken f [] (suc i) l = absurd (omega (arith, l))
-length_taken f (x ∷ xs) (suc i) l = ap suc (length_taken f xs i (omega (arith, l)))
 
 take_whole : {A B : Type 0} (f : A → B) (xs : List A) (i : ℕ) → length xs ≤ i → take i (map f xs) ≡ map f xs
 take_whole f [] zero l = refl
@@ -98,11 +98,12 @@ take_whole f (x ∷ xs) (suc i) l = ap (λ l. f x ∷ l) (take_whole f xs i (ome
 
 module _ (names : List (List ℕ)) (P : Atom → Type 0) (atoms : List Declared.Atom) (i : ℕ) where
   abbrev pub BestTo : ℕ → Option (ℕ × Vec ℕ) → Type 0
-  BestTo n o = IsBest names P (take n (map atom atoms)) o
+  BestTo n o = IsBest names P (map atom atoms) (take n (map atom atoms)) o
 
-  pub best_next : (a : Declared.Atom) (o r : Option (ℕ × Vec ℕ)) → i ≤ length atoms → slice_get atoms i ≡ Some a → BestTo i o → ((es : Effect) → i ≡ length es → IsBest names P es o → IsBest names P (es ++ atom a ∷ []) r) → BestTo (i + 1) r
-  best_next a o r l at so next =
-      subst (λ es. IsBest names P es r) (sym (take_more atom atoms i a at)) (next (take i (map atom atoms)) (length_taken atom atoms i l) so)
+  -- one more atom is gone through
+  pub best_next : (a : Declared.Atom) (o r : Option (ℕ × Vec ℕ)) → slice_get atoms i ≡ Some a → BestTo i o → ((all es : Effect) → slice_get all i ≡ Some (atom a) → IsBest names P all es o → IsBest names P all (es ++ atom a ∷ []) r) → BestTo (i + 1) r
+  best_next a o r at so next =
+      subst (λ es. IsBest names P (map atom atoms) es r) (sym (take_more atom atoms i a at)) (next (map atom atoms) (take i (map atom atoms)) (get_map atom atoms i at) so)
 
   pub best_end : (o : Option (ℕ × Vec ℕ)) → length atoms ≤ i → BestTo i o → IsPlaceOfLeast names P (map atom atoms) (tried_place o)
-  best_end o l so = best_place names P (map atom atoms) o (subst (λ es. IsBest names P es o) (take_whole atom atoms i l) so)
+  best_end o l so = best_place names P (map atom atoms) o (subst (λ es. IsBest names P (map atom atoms) es o) (take_whole atom atoms i l) so)

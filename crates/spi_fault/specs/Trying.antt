@@ -1,5 +1,5 @@
 -- How the checks of a node are tried: what the inner functions say. No public clause names it.
-use Rattle.std.specs.Prelude.{◌≡◌, ◌≢◌, ◌⊎◌, ℕ, ◌+◌, ◌<◌, ◌≤◌, ◌^◌, List, Option, Some, None, slice_get, ⊤}
+use Rattle.std.specs.Prelude.{◌≡◌, ◌≢◌, ℕ, ◌+◌, ◌<◌, ◌≤◌, ◌^◌, List, Option, Some, None, slice_get, ⊤}
 use Rattle.std.specs.Cmp.Lexicographic.{slice_cmp}
 use Rattle.std.specs.Ordering.{nat_cmp}
 use Rattle.std.specs.declared.cmp.Ordering.TheVariants.{Greater}
@@ -46,20 +46,19 @@ IsOf K.Any a = ⊤
 IsOf K.NotMany a = IsMany a → ⊥
 IsOf (K.Naming n k) a = HasBoundName n k a
 
--- the place and the text of an atom of the list that is of this kind and whose text is least, and none where no atom is of it
-abbrev pub IsBest : List (List ℕ) → (Atom → Type 0) → List Atom → Option (ℕ × Vec ℕ) → Type 0
-IsBest names P es None = (b : Atom) → In b es → P b → ⊥
-IsBest names P es (Some (j, text)) =
-    (a : Atom) × (slice_get es j ≡ Some a) × P a × (text.items ≡ reported_atom names a)
+-- The place among all atoms and the text of one that is of this kind and whose text is at most that of each of this kind in
+-- a list, and none where no atom in it is of the kind.
+abbrev pub IsBest : List (List ℕ) → (Atom → Type 0) → List Atom → List Atom → Option (ℕ × Vec ℕ) → Type 0
+IsBest names P all es None = (b : Atom) → In b es → P b → ⊥
+IsBest names P all es (Some (j, text)) =
+    (a : Atom) × (slice_get all j ≡ Some a) × P a × (text.items ≡ reported_atom names a)
     × ((b : Atom) → In b es → P b
     → slice_cmp nat_cmp (reported_atom names a) (reported_atom names b) ≢ Greater)
 
--- what is kept of the best so far and of one more
-abbrev pub IsBetter : Option (ℕ × Vec ℕ) → ℕ → Vec ℕ → Option (ℕ × Vec ℕ) → Type 0
-IsBetter None i text r = r ≡ Some (i, text)
-IsBetter (Some (j, old)) i text r =
-    ((slice_cmp nat_cmp old.items text.items ≡ Greater) × (r ≡ Some (i, text)))
-    ⊎ ((slice_cmp nat_cmp old.items text.items ≢ Greater) × (r ≡ Some (j, old)))
+-- the atom is of the kind, and its text comes before that of the best so far
+abbrev pub IsBetter : List (List ℕ) → (Atom → Type 0) → Option (ℕ × Vec ℕ) → Atom → Type 0
+IsBetter names P None a = P a
+IsBetter names P (Some (j, text)) a = P a × (slice_cmp nat_cmp text.items (reported_atom names a) ≡ Greater)
 
 abbrev pub tried_place : Option (ℕ × Vec ℕ) → Option ℕ
 tried_place None = None

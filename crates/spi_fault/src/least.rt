@@ -1,5 +1,5 @@
 // The atom that is shown: of those of a kind, one whose report form is least by its bytes.
-ghost use Rattle.std.specs.Prelude.{◌≡◌, ◌+◌, ◌^◌, ◌<◌, ◌↔◌, [], ◌∷◌, ◌++◌, map, length, IfOk, IsTrue};
+ghost use Rattle.std.specs.Prelude.{◌≡◌, ◌+◌, ◌^◌, ◌<◌, ◌↔◌, [], ◌∷◌, ◌++◌, Some, map, slice_get, IfOk, OnOk, IsTrue};
 ghost use Rattle.spi_term.specs.Term.{Effect};
 ghost use Rattle.spi_term.specs.Names.{OfAtom, Avoids};
 ghost use Rattle.spi_term.specs.View.{atom};
@@ -8,11 +8,10 @@ ghost use Rattle.spi_fault.specs.Passing.{HasBoundName};
 ghost use Rattle.spi_fault.specs.Trying.{IsOf, IsBest, IsBetter, CanBe, IsPlaceOfLeast, tried_place};
 
 use crate::NoMemory;
-use spi_show::show_atom;
+use spi_show::{is_before, show_atom};
 use spi_term::{Atom, free_in};
 use spi_text::Text;
 use std::alloc::Global;
-use std::cmp::Ordering;
 
 /// Which atoms come into question.
 #[derive(Clone, Copy)]
@@ -68,39 +67,63 @@ fn is_of(kind: Kind, a: &Atom) -> bool
     }
 }
 
-// The better of the best so far and a further atom's text.
-fn better(best: Option<(usize, Vec<u8>)>, i: usize, text: Vec<u8>) -> Option<(usize, Vec<u8>)>
-    ensures { IsBetter best i text result }
+// Whether an atom is of the kind and its text comes before that of the best so far.
+fn is_better(names: &[Text], kind: Kind, best: &Option<(usize, Vec<u8>)>, a: &Atom) -> bool
+    requires { CanBe kind }
+    ensures { IsTrue result ↔ IsBetter names.now (IsOf kind) best.now (atom a.now) }
 {
+    if !is_of(kind, a) {
+        return false;
+    }
     match best {
-        None => Some((i, text)),
-        Some((j, least)) => match least.cmp(&text) {
-            Ordering::Greater => Some((i, text)),
-            _ => Some((j, least)),
-        },
+        None => true,
+        Some((_, least)) => is_before(least, names, a),
     }
 }
 
-// The best so far, once one more atom is seen.
-fn next_best(
+// An atom that is better than the best so far is kept with its place among all.
+fn keep_better(
     alloc: Global,
     names: &[Text],
     kind: Kind,
-    best: Option<(usize, Vec<u8>)>,
+    best: &mut Option<(usize, Vec<u8>)>,
     i: usize,
     a: &Atom,
+) -> Result<(), NoMemory>
+    requires { CanBe kind }
+    ensures { OnOk result
+        ((all es : Effect) → slice_get all i ≡ Some (atom a.now)
+        → IsBest names.now (IsOf kind) all es best.old
+        → IsBest names.now (IsOf kind) all (es ++ atom a.now ∷ []) best.new) }
+{
+    if !is_better(names, kind, best, a) {
+        return Ok(());
+    }
+    let text = show_atom(alloc, names, a)?;
+    *best = Some((i, text));
+    Ok(())
+}
+
+// The last atom, where it is of the kind. Where the texts rise or fall, the first or the last is the least.
+fn last_of(
+    alloc: Global,
+    names: &[Text],
+    kind: Kind,
+    atoms: &[Atom],
 ) -> Result<Option<(usize, Vec<u8>)>, NoMemory>
     requires { CanBe kind }
-    ensures { IfOk result
-        (λ r. (es : Effect) → i ≡ length es → IsBest names.now (IsOf kind) es best
-        → IsBest names.now (IsOf kind) (es ++ atom a.now ∷ []) r) }
+    ensures { IfOk result (IsBest names.now (IsOf kind) (map atom atoms.now) []) }
 {
-    if is_of(kind, a) {
-        let text = show_atom(alloc, names, a)?;
-        Ok(better(best, i, text))
-    } else {
-        Ok(best)
+    if atoms.is_empty() {
+        return Ok(None);
     }
+    let i = atoms.len() - 1;
+    let a = &atoms[i];
+    if !is_of(kind, a) {
+        return Ok(None);
+    }
+    let text = show_atom(alloc, names, a)?;
+    Ok(Some((i, text)))
 }
 
 fn place_in(best: Option<(usize, Vec<u8>)>) -> Option<usize>
@@ -112,8 +135,8 @@ fn place_in(best: Option<(usize, Vec<u8>)>) -> Option<usize>
     }
 }
 
-/// The place of an atom of this kind whose report form is least by its bytes, where there is one. Each atom of the kind is
-/// rendered once.
+/// The place of an atom of this kind whose report form is least by its bytes, where there is one. The last
+/// atom is rendered, and then each whose text comes before those of all that were looked at.
 pub fn least_text(
     alloc: Global,
     names: &[Text],
@@ -123,10 +146,10 @@ pub fn least_text(
     requires { CanBe kind }
     ensures { IfOk result (λ o. IsPlaceOfLeast names.now (IsOf kind) (map atom atoms.now) o) }
 {
-    let mut best = None;
+    let mut best = last_of(alloc, names, kind, atoms)?;
     let mut i = 0;
     while i < atoms.len() {
-        best = next_best(alloc, names, kind, best, i, &atoms[i])?;
+        keep_better(alloc, names, kind, &mut best, i, &atoms[i])?;
         i += 1;
     }
     Ok(place_in(best))

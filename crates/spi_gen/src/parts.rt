@@ -1,12 +1,12 @@
 // The parts of the nonce handshake as trees.
 ghost use Rattle.std.specs.Prelude.{◌≡◌, [], ◌∷◌, map, codes, IfOk};
 ghost use Rattle.spi_tree.specs.Trees as t;
-ghost use Rattle.spi_tree.specs.Views.{msg_of, ty_of, last_of, proc_of, decl_of};
+ghost use Rattle.spi_tree.specs.Views.{msg_of, msgs_of_more, ty_of, last_of, proc_of, decl_of};
 ghost use Rattle.spi_gen.specs.Handshake as H;
 
 use crate::NoMemory;
 use spi_text::{Span, Text};
-use spi_tree::{Decl, Last, MsgParts, SAtom, SMsg, SProc, STy, SWord, TyParts};
+use spi_tree::{Decl, Last, More, MsgParts, SAtom, SMsg, SProc, STy, SWord, TyParts};
 use std::alloc::Global;
 
 /// The empty span at 0: what is made here stands nowhere in a text.
@@ -29,10 +29,10 @@ fn name(alloc: Global, spelling: &str) -> Result<SMsg, NoMemory>
     })
 }
 
-fn tuple(alloc: Global, first: SMsg, second: SMsg, more: Vec<SMsg>) -> Result<SMsg, NoMemory>
+fn tuple(alloc: Global, first: SMsg, second: SMsg, more: More) -> Result<SMsg, NoMemory>
     ensures { IfOk result
         (λ m. msg_of m
-        ≡ t.tuple t.nowhere (msg_of first) (msg_of second) (t.msgs_of_list (map msg_of more.items))) }
+        ≡ t.tuple t.nowhere (msg_of first) (msg_of second) (msgs_of_more more)) }
 {
     let parts = MsgParts {
         first,
@@ -49,14 +49,13 @@ fn pair(alloc: Global, first: &str, second: &str) -> Result<SMsg, NoMemory>
     ensures { IfOk result (λ m. msg_of m ≡ H.pair (H.name first.now) (H.name second.now)) }
 {
     let first = name(alloc, first)?;
-    tuple(alloc, first, name(alloc, second)?, Vec::new(alloc))
+    tuple(alloc, first, name(alloc, second)?, More::None)
 }
 
 fn label(alloc: Global) -> Result<SMsg, NoMemory>
     ensures { IfOk result (λ m. msg_of m ≡ H.label) }
 {
-    let mut more = Vec::new(alloc);
-    more.push(name(alloc, "m")?)?;
+    let more = More::One(name(alloc, "m")?);
     let first = name(alloc, "a")?;
     tuple(alloc, first, name(alloc, "b")?, more)
 }

@@ -1,23 +1,19 @@
 -- The stack of counts against the stack of effects.
 use Rattle.std.proofs.Common.{◌≡◌, refl, sym, ap, ◌∙◌, subst, ℕ, Bool, true, false, List, [], ◌∷◌, ◌++◌, reverse, Option, Some, None}
-use Rattle.std.specs.Prelude.{is_some, is_none, not}
+use Rattle.std.specs.Prelude.{is_none}
 use Rattle.std.proofs.lemmas.List.{reverse-append}
 use Rattle.spi_term.specs.Term.{Message, Effect}
 use Rattle.spi_term.specs.Spelling.{Shape, leaf_at, prefix_at, fork_at}
 use Rattle.spi_intern.specs.declared.store.Store.{Store}
-use Rattle.spi_count.specs.Counts.{count_of}
-use Rattle.spi_count.specs.Sums.{part}
 use Rattle.spi_count.specs.Piles.{piled, StandsForPile}
 use Rattle.spi_count.specs.declared.sum.AtomKind.{AtomKind}
-use Rattle.spi_count.specs.declared.sum.Sum.{Sum}
 use Rattle.spi_count.specs.declared.pile.Pile.{Pile}
-use Rattle.spi_count.proofs.Standing.{piles_none, pile_of_sum, pile_settled}
-use Rattle.spi_count.proofs.Waiting.{settled_same}
+use Rattle.spi_count.proofs.Standing.{piles_none}
 use Rattle.spi_count.specs.declared.keys.Keys.{Keys}
 use Rattle.spi_infer.specs.declared.own.OwnNote.{OwnNote}
 use Rattle.spi_count.specs.Keeping.{with_keys, IsKeyed}
-use Rattle.spi_infer.specs.Own.{CountsFor, PileFor, TopsStand}
-use Rattle.spi_infer.specs.Forms.{keep}
+use Rattle.spi_infer.specs.Own.{PileFor, TopsStand}
+use Rattle.spi_infer.specs.Forms.{by_effects, keep}
 use Rattle.spi_infer.specs.Passes.{Note, act_by, stuck_top_by, stuck_two_by, after_shape, both_shape}
 use Rattle.spi_infer.specs.Accounts.{BelowIn, MayBelowIn, Behind, AfterForm, BothForm, Tops, IsBeforeNode}
 use Rattle.spi_count.proofs.Summed.{numbers}
@@ -33,40 +29,17 @@ pub nothing_stands : (s : Store) (keys : Keys) (pile : Pile) (fine : Bool) → I
 nothing_stands s keys pile true k h e = piles_none (with_keys s keys) (numbers k) h
 nothing_stands s keys pile false k h e = absurd (cc)
 
--- where no atom waits
-pub none_waiting : (At : ℕ → Message → Type 0) (o : Option Effect) → CountsFor At None o → PileFor At None o
-none_waiting At None t = tt
-none_waiting At (Some es) t = t
-
-pub all_waited : (At : ℕ → Message → Type 0) (o : Option Effect) → PileFor At None o → CountsFor At None o
-all_waited At None t = tt
-all_waited At (Some es) t = t
-
-pub pile_for : (At : ℕ → Message → Type 0) (pile : Pile) (sum : Sum) (o : Option Effect) → pile.sum ≡ sum → pile.late.items ≡ [] → CountsFor At (Some sum) o → PileFor At (Some pile) o
-pile_for At pile sum None e z t = t
-pile_for At pile sum (Some es) e z t = pile_of_sum (λ kind q. settled_same kind pile _ q (ap (λ s. count_of (part kind s) q) e) z) t
-
-pub counts_for : (At : ℕ → Message → Type 0) (pile : Pile) (sum : Sum) (o : Option Effect) → ((kind : AtomKind) (q : ℕ) → count_of (part kind sum) q ≡ piled kind pile q) → PileFor At (Some pile) o → CountsFor At (Some sum) o
-counts_for At pile sum None e t = t
-counts_for At pile sum (Some es) e t = pile_settled e t
-
-pub none_is_none : (At : ℕ → Message → Type 0) (r : Option Sum) (o : Option Effect) → CountsFor At r o → is_none r ≡ is_none o
-none_is_none At None None t = refl
-none_is_none At None (Some es) t = absurd t
-none_is_none At (Some s) None t = absurd t
-none_is_none At (Some s) (Some es) t = refl
-
 pub pile_is_none : (At : ℕ → Message → Type 0) (r : Option Pile) (o : Option Effect) → PileFor At r o → is_none r ≡ is_none o
 pile_is_none At None None t = refl
 pile_is_none At None (Some es) t = absurd t
 pile_is_none At (Some s) None t = absurd t
 pile_is_none At (Some s) (Some es) t = refl
 
-pub none_told : (o : Option Pile) (r : Bool) → is_some o ≡ not r → r ≡ is_none o
-none_told None true e = refl
-none_told None false e = absurd (cc)
-none_told (Some s) true e = absurd (cc)
-none_told (Some s) false e = refl
+pub two_acts : (s : Store) (keys : Keys) (x : Shape) (fine : Bool) (a b : Pile) (next : Option Pile) (e f : Option Effect) → fine ≡ true → IsKeyed s keys → BothForm x a b next
+    → PileFor (with_keys s keys) (Some a) e → PileFor (with_keys s keys) (Some b) f → MayBelowIn x e → MayBelowIn x f → PileFor (with_keys s keys) next (keep fine (by_effects (both_shape x) e f))
+two_acts s keys x fine a b next None f q k h t u v w = absurd t
+two_acts s keys x fine a b next (Some es) None q k h t u v w = absurd u
+two_acts s keys x fine a b next (Some es) (Some fs) q k h t u v w = kept_keep (with_keys s keys) next fine (both_shape x es fs) q (h s keys es fs k t u v w)
 
 pub two_stuck : (s : Store) (keys : Keys) (x : Shape) (fine : Bool) (a b : Pile) (next : Option Pile) (e f : Option Effect) → fine ≡ true → IsKeyed s keys → BothForm x a b next
     → PileFor (with_keys s keys) (Some a) e → PileFor (with_keys s keys) (Some b) f → MayBelowIn x e → MayBelowIn x f → is_none next ≡ stuck_two_by (both_shape x) fine e f
@@ -85,23 +58,23 @@ keep_none : (b : Bool) (o : Option Effect) → b ≡ true → is_none o ≡ is_n
 keep_none true o e = refl
 keep_none false o e = absurd (cc)
 
-module _ (s : Store) (keys : Keys) (x : Shape) (o : OwnNote) (os rest : List (Option Pile)) (n : Note) (st : List (Option Effect)) (b : IsBeforeNode s keys x o os n st) (fine : o.fine ≡ true) (pile : Pile) (sum : Sum) (next : Option Sum) (pop : os ≡ rest ++ Some pile ∷ [])
-    (settled : (kind : AtomKind) (q : ℕ) → count_of (part kind sum) q ≡ piled kind pile q) (h : AfterForm s keys x o.own sum next) where
+module _ (s : Store) (keys : Keys) (x : Shape) (o : OwnNote) (os rest : List (Option Pile)) (n : Note) (st : List (Option Effect)) (b : IsBeforeNode s keys x o os n st) (fine : o.fine ≡ true) (pile : Pile) (next : Option Pile)
+    (pop : os ≡ rest ++ Some pile ∷ []) (h : AfterForm s keys x o.own pile next) where
   n_fine : n.fine ≡ true
   n_fine = sym b.noted.0 ∙ fine
 
-  after : (es : Effect) (st : List (Option Effect)) → Behind x (Some es ∷ st) → StandsForPile (with_keys s keys) pile es → CountsFor (with_keys s keys) next (after_shape x n.paid es)
-  after es st l t = h n.paid es b.keyed (b.noted.1 n_fine) (pile_settled settled t) (behind_top x es st l)
+  after : (es : Effect) (st : List (Option Effect)) → Behind x (Some es ∷ st) → StandsForPile (with_keys s keys) pile es → PileFor (with_keys s keys) next (after_shape x n.paid es)
+  after es st l t = h n.paid es b.keyed (b.noted.1 n_fine) t (behind_top x es st l)
 
-  pub one_acts : (new : List (Option Pile)) (last : Option Pile) → ((e : Option Effect) → CountsFor (with_keys s keys) next e → PileFor (with_keys s keys) last e) → new ≡ rest ++ last ∷ [] → Tops s keys new (act_by (after_shape x n.paid) n.fine st)
-  one_acts new last w e = go st b.behind (tops_top (with_keys s keys) os rest (Some pile) st pop b.tops)
+  pub one_acts : (new : List (Option Pile)) → new ≡ rest ++ next ∷ [] → Tops s keys new (act_by (after_shape x n.paid) n.fine st)
+  one_acts new e = go st b.behind (tops_top (with_keys s keys) os rest (Some pile) st pop b.tops)
     where
       go : (st : List (Option Effect)) → Behind x st → TopsStand (with_keys s keys) (Some pile ∷ reverse rest) st → Tops s keys new (act_by (after_shape x n.paid) n.fine st)
       go [] l t = absurd t
       go (None ∷ st) l t = absurd t.0
       go (Some es ∷ st) l t =
-          tops_push (with_keys s keys) rest new last (keep n.fine (after_shape x n.paid es)) st e
-          (w (keep n.fine (after_shape x n.paid es)) (kept_keep (with_keys s keys) next n.fine (after_shape x n.paid es) n_fine (after es st l t.0))) t.1
+          tops_push (with_keys s keys) rest new next (keep n.fine (after_shape x n.paid es)) st e
+          (kept_keep (with_keys s keys) next n.fine (after_shape x n.paid es) n_fine (after es st l t.0)) t.1
 
   pub one_stuck : is_none next ≡ stuck_top_by (after_shape x n.paid) n.fine st
   one_stuck = go st b.behind (tops_top (with_keys s keys) os rest (Some pile) st pop b.tops)
@@ -110,5 +83,5 @@ module _ (s : Store) (keys : Keys) (x : Shape) (o : OwnNote) (os rest : List (Op
       go [] l t = absurd t
       go (None ∷ st) l t = absurd t.0
       go (Some es ∷ st) l t =
-          none_is_none (with_keys s keys) next (after_shape x n.paid es) (after es st l t.0)
+          pile_is_none (with_keys s keys) next (after_shape x n.paid es) (after es st l t.0)
           ∙ keep_none n.fine (after_shape x n.paid es) n_fine

@@ -1,15 +1,11 @@
 -- The numbers of a form's terms stay theirs.
 use Rattle.std.proofs.Common.{Option, Some, None}
-use Rattle.std.specs.Prelude.{IfSome, option_map}
+use Rattle.std.specs.Prelude.{IfSome}
 use Rattle.spi_intern.specs.Meaning.{Keeps}
 use Rattle.spi_intern.proofs.Meanings.{means_keeps}
 use Rattle.spi_message.specs.Judging.{Numbered}
 use Rattle.spi_infer.specs.declared.terms.Terms.{Terms}
 use Rattle.spi_infer.specs.Terms.{FormTerms, AreNumbers}
-
-pub some_mapped : {A B : Type 0} (f : A → B) {P : A → Type 0} (Q : B → Type 0) (o : Option A) → ((a : A) → P a → Q (f a)) → IfSome o P → IfSome (option_map f o) Q
-some_mapped f Q (Some a) g h = g a h
-some_mapped f Q None g h = tt
 
 some_as : {A : Type 0} {P Q : A → Type 0} (o : Option A) → ((a : A) → P a → Q a) → IfSome o P → IfSome o Q
 some_as (Some a) g h = g a h

@@ -1,5 +1,5 @@
 -- What forms do to effects by counts, and the effects that stand behind a node.
-use Rattle.std.specs.Prelude.{◌≡◌, ℕ, suc, ◌+◌, ◌<◌, ◌||◌, length, slice_get, reverse, List, [], ◌∷◌, ◌++◌, Option, Some, None, true, ⊤}
+use Rattle.std.specs.Prelude.{◌≡◌, ℕ, Bool, suc, ◌+◌, ◌<◌, ◌||◌, length, slice_get, reverse, List, [], ◌∷◌, ◌++◌, Option, Some, None, true, false, ⊤}
 use Rattle.spi_term.specs.declared.term.Effect as Declared
 use Rattle.spi_term.specs.View as View
 use Rattle.spi_term.specs.Counts.{SameEffect}
@@ -13,7 +13,6 @@ use Rattle.spi_intern.specs.Meaning.{Means}
 use Rattle.spi_effect.specs.Made.{are_many, mentions, minus, greater}
 use Rattle.spi_count.specs.Sums.{Below}
 use Rattle.spi_count.specs.Piles.{StandsForPile}
-use Rattle.spi_count.specs.declared.sum.Sum.{Sum}
 use Rattle.spi_count.specs.declared.pile.Pile.{Pile}
 use Rattle.spi_count.specs.declared.keys.Keys.{Keys}
 use Rattle.spi_infer.specs.declared.own.Own.{Own}
@@ -21,44 +20,49 @@ use Rattle.spi_infer.specs.declared.own.Own.TheVariants.{Label, Checked, Cast, M
 use Rattle.spi_infer.specs.declared.own.OwnNote.{OwnNote}
 use Rattle.spi_infer.specs.declared.own.Noted.{Noted}
 use Rattle.spi_count.specs.Keeping.{with_keys, IsKeyed, HaveKeys, AreKept}
-use Rattle.spi_infer.specs.Own.{PaidFits, IsOwnOf, CountsFor, PileFor, FormNotedAs, AreFormsNoted, TopsStand}
+use Rattle.spi_infer.specs.Own.{PaidFits, IsOwnOf, PileFor, FormNotedAs, AreFormsNoted, TopsStand}
 use Rattle.spi_message.specs.Forms.{cast_effect_of}
 use Rattle.spi_infer.specs.Forms.{unless_blocked, keep, checked}
 use Rattle.spi_infer.specs.Passes.{Note, scan, after_shape, both_shape}
-use Rattle.spi_count.specs.Adding.{SumOf}
+use Rattle.spi_count.specs.Adding.{PileOf}
+
+-- the pile, where it is told that there is an effect
+abbrev pub kept_if : Bool → Pile → Option Pile
+kept_if true p = Some p
+kept_if false p = None
 
 -- what a form that binds the name k, or two names from k on, does to an effect
-abbrev pub AfterOne : ℕ → Sum → Option Sum → Type 0
-AfterOne k sum r =
-    (s : Store) (keys : Keys) (es : Effect) → IsKeyed s keys → SumOf s keys sum es → Below (k + 1) es
-    → CountsFor (with_keys s keys) r (unless_blocked (mentions k es) es)
+abbrev pub AfterOne : ℕ → Pile → Option Pile → Type 0
+AfterOne k pile r =
+    (s : Store) (keys : Keys) (es : Effect) → IsKeyed s keys → PileOf s keys pile es → Below (k + 1) es
+    → PileFor (with_keys s keys) r (unless_blocked (mentions k es) es)
 
-abbrev pub AfterTwo : ℕ → Sum → Option Sum → Type 0
-AfterTwo k sum r =
-    (s : Store) (keys : Keys) (es : Effect) → IsKeyed s keys → SumOf s keys sum es → Below (k + 2) es
-    → CountsFor (with_keys s keys) r (unless_blocked (mentions k es || mentions (suc k) es) es)
+abbrev pub AfterTwo : ℕ → Pile → Option Pile → Type 0
+AfterTwo k pile r =
+    (s : Store) (keys : Keys) (es : Effect) → IsKeyed s keys → PileOf s keys pile es → Below (k + 2) es
+    → PileFor (with_keys s keys) r (unless_blocked (mentions k es || mentions (suc k) es) es)
 
-abbrev pub AfterServe : ℕ → Sum → Option Sum → Type 0
-AfterServe k sum r =
-    (s : Store) (keys : Keys) (es : Effect) → IsKeyed s keys → SumOf s keys sum es → Below (k + 1) es
-    → CountsFor (with_keys s keys) r (keep (are_many es) (unless_blocked (mentions k es) es))
+abbrev pub AfterServe : ℕ → Pile → Option Pile → Type 0
+AfterServe k pile r =
+    (s : Store) (keys : Keys) (es : Effect) → IsKeyed s keys → PileOf s keys pile es → Below (k + 1) es
+    → PileFor (with_keys s keys) r (keep (are_many es) (unless_blocked (mentions k es) es))
 
-abbrev pub AfterMake : ℕ → Store → Keys → Sum → Option Sum → Type 0
-AfterMake k s keys sum r =
-    (es : Effect) → IsKeyed s keys → SumOf s keys sum es → Below (k + 1) es
-    → CountsFor (with_keys s keys) r
+abbrev pub AfterMake : ℕ → Store → Keys → Pile → Option Pile → Type 0
+AfterMake k s keys pile r =
+    (es : Effect) → IsKeyed s keys → PileOf s keys pile es → Below (k + 1) es
+    → PileFor (with_keys s keys) r
     (unless_blocked (mentions k (minus es (checks (name k) ∷ []))) (minus es (checks (name k) ∷ [])))
 
-abbrev pub AfterCast : ℕ → Store → Keys → TyId → Sum → Option Sum → Type 0
-AfterCast k s keys t sum r =
+abbrev pub AfterCast : ℕ → Store → Keys → TyId → Pile → Option Pile → Type 0
+AfterCast k s keys t pile r =
     (u : Ty) (es : Effect) → IsKeyed s keys → Means s t.place u → HaveKeys s keys (cast_effect_of u)
-    → SumOf s keys sum es → Below (k + 1) es
-    → CountsFor (with_keys s keys) r (unless_blocked (mentions k es) (es ++ cast_effect_of u))
+    → PileOf s keys pile es → Below (k + 1) es
+    → PileFor (with_keys s keys) r (unless_blocked (mentions k es) (es ++ cast_effect_of u))
 
-abbrev pub AfterCheck : Store → Keys → MsgId → Option TyId → Sum → Option Sum → Type 0
-AfterCheck s keys id t sum r =
+abbrev pub AfterCheck : Store → Keys → MsgId → Option TyId → Pile → Option Pile → Type 0
+AfterCheck s keys id t pile r =
     (m : Message) (paid : Option Effect) (es : Effect) → IsKeyed s keys → with_keys s keys id.place m
-    → PaidFits s t paid → SumOf s keys sum es → CountsFor (with_keys s keys) r (checked paid m es)
+    → PaidFits s t paid → PileOf s keys pile es → PileFor (with_keys s keys) r (checked paid m es)
 
 -- the type of a nonce is one of the store
 abbrev pub MayBeType : Store → Option TyId → Type 0
@@ -71,10 +75,10 @@ BelowIn (leaf_at k l) es = ⊤
 BelowIn (prefix_at k s b) es = Below (k + binds s) es
 BelowIn (fork_at k f a r) es = Below (k + fork_binds f) es
 
-abbrev pub AfterForm : Store → Keys → Shape → Own → Sum → Option Sum → Type 0
-AfterForm s keys x own sum r =
+abbrev pub AfterForm : Store → Keys → Shape → Own → Pile → Option Pile → Type 0
+AfterForm s keys x own pile r =
     (paid : Option Effect) (es : Effect) → IsKeyed s keys → IsOwnOf s (with_keys s keys) x paid own
-    → SumOf s keys sum es → BelowIn x es → CountsFor (with_keys s keys) r (after_shape x paid es)
+    → PileOf s keys pile es → BelowIn x es → PileFor (with_keys s keys) r (after_shape x paid es)
 
 -- what a form with two processes does to theirs
 abbrev pub BothForm : Shape → Pile → Pile → Option Pile → Type 0
@@ -83,12 +87,6 @@ BothForm x a b r =
     → StandsForPile (with_keys s keys) b fs → BelowIn x es → BelowIn x fs
     → PileFor (with_keys s keys) r (both_shape x es fs)
 
-abbrev pub BothCase : ℕ → Sum → Sum → Option Sum → Type 0
-BothCase k a b r =
-    (s : Store) (keys : Keys) (es fs : Effect) → IsKeyed s keys → SumOf s keys a es → SumOf s keys b fs
-    → Below (k + 1) es → Below (k + 1) fs
-    → CountsFor (with_keys s keys) r (unless_blocked (mentions k es || mentions k fs) (greater es fs))
-
 abbrev pub BothPiles : ℕ → Pile → Pile → Option Pile → Type 0
 BothPiles k a b r =
     (s : Store) (keys : Keys) (es fs : Effect) → IsKeyed s keys → StandsForPile (with_keys s keys) a es
@@ -96,33 +94,33 @@ BothPiles k a b r =
     → PileFor (with_keys s keys) r (unless_blocked (mentions k es || mentions k fs) (greater es fs))
 
 -- by what is kept of the form
-abbrev pub OwnCheck : Store → Keys → Own → Sum → Option Sum → Type 0
-OwnCheck s keys own sum r = (id : MsgId) (t : Option TyId) → own ≡ Checked id t → AfterCheck s keys id t sum r
+abbrev pub OwnCheck : Store → Keys → Own → Pile → Option Pile → Type 0
+OwnCheck s keys own pile r = (id : MsgId) (t : Option TyId) → own ≡ Checked id t → AfterCheck s keys id t pile r
 
-abbrev pub OwnCast : ℕ → Store → Keys → Own → Sum → Option Sum → Type 0
-OwnCast k s keys own sum r = (t : TyId) → own ≡ Cast t → AfterCast k s keys t sum r
+abbrev pub OwnCast : ℕ → Store → Keys → Own → Pile → Option Pile → Type 0
+OwnCast k s keys own pile r = (t : TyId) → own ≡ Cast t → AfterCast k s keys t pile r
 
-abbrev pub OwnMake : ℕ → Keys → Own → Sum → Option Sum → Type 0
-OwnMake k keys own sum r = (s : Store) (id : MsgId) → own ≡ Made id
-    → slice_get s.messages id.place ≡ Some (name k) → AfterMake k s keys sum r
+abbrev pub OwnMake : ℕ → Keys → Own → Pile → Option Pile → Type 0
+OwnMake k keys own pile r = (s : Store) (id : MsgId) → own ≡ Made id
+    → slice_get s.messages id.place ≡ Some (name k) → AfterMake k s keys pile r
 
-abbrev pub OwnBegin : Keys → Own → Sum → Option Sum → Type 0
-OwnBegin keys own sum r =
+abbrev pub OwnBegin : Keys → Own → Pile → Option Pile → Type 0
+OwnBegin keys own pile r =
     (s : Store) (id : MsgId) (m : Message) (es : Effect) → own ≡ Label id → IsKeyed s keys
-    → slice_get s.messages id.place ≡ Some m → SumOf s keys sum es
-    → CountsFor (with_keys s keys) r (Some (minus es (ends m ∷ (many m ∷ []))))
+    → slice_get s.messages id.place ≡ Some m → PileOf s keys pile es
+    → PileFor (with_keys s keys) r (Some (minus es (ends m ∷ (many m ∷ []))))
 
-abbrev pub OwnEnd : Keys → Own → Sum → Option Sum → Type 0
-OwnEnd keys own sum r =
+abbrev pub OwnEnd : Keys → Own → Pile → Option Pile → Type 0
+OwnEnd keys own pile r =
     (s : Store) (id : MsgId) (m : Message) (es : Effect) → own ≡ Label id → IsKeyed s keys
-    → with_keys s keys id.place m → SumOf s keys sum es
-    → CountsFor (with_keys s keys) r (Some (es ++ ends m ∷ []))
+    → with_keys s keys id.place m → PileOf s keys pile es
+    → PileFor (with_keys s keys) r (Some (es ++ ends m ∷ []))
 
-abbrev pub OwnMany : Keys → Own → Sum → Option Sum → Type 0
-OwnMany keys own sum r =
+abbrev pub OwnMany : Keys → Own → Pile → Option Pile → Type 0
+OwnMany keys own pile r =
     (s : Store) (id : MsgId) (m : Message) (es : Effect) → own ≡ Label id → IsKeyed s keys
-    → with_keys s keys id.place m → SumOf s keys sum es
-    → CountsFor (with_keys s keys) r (Some (es ++ many m ∷ []))
+    → with_keys s keys id.place m → PileOf s keys pile es
+    → PileFor (with_keys s keys) r (Some (es ++ many m ∷ []))
 
 -- the types that are kept are of the store
 abbrev pub CheckGiven : Store → Own → Type 0

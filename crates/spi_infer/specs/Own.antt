@@ -7,9 +7,7 @@ use Rattle.spi_intern.specs.declared.store.Store.{Store}
 use Rattle.spi_intern.specs.declared.messages.MsgId.{MsgId}
 use Rattle.spi_intern.specs.declared.types.TyId.{TyId}
 use Rattle.spi_intern.specs.Meaning.{Means}
-use Rattle.spi_count.specs.Sums.{StandsForEffect}
 use Rattle.spi_count.specs.Piles.{StandsForPile}
-use Rattle.spi_count.specs.declared.sum.Sum.{Sum}
 use Rattle.spi_count.specs.declared.pile.Pile.{Pile}
 use Rattle.spi_infer.specs.declared.own.Own.{Own}
 use Rattle.spi_infer.specs.declared.own.Own.TheVariants.{Label, Checked, Cast, Made}
@@ -48,13 +46,6 @@ IsOwnOf s At (leaf_at k l) paid own = ⊤
 IsOwnOf s At (prefix_at k p b) paid own = FormFits s At k p paid own
 IsOwnOf s At (fork_at k f a r) paid own = ⊤
 
--- counts for an effect, where there is one
-abbrev pub CountsFor : (ℕ → Message → Type 0) → Option Sum → Option Effect → Type 0
-CountsFor At None None = ⊤
-CountsFor At None (Some es) = ⊥
-CountsFor At (Some s) None = ⊥
-CountsFor At (Some s) (Some es) = StandsForEffect At s es
-
 -- What is kept of a node: whether the form's own premises hold, and where they do what it adds and takes off.
 abbrev pub FormNotedAs : Store → (ℕ → Message → Type 0) → Shape → Note → OwnNote → Type 0
 FormNotedAs s At x n o = (o.fine ≡ n.fine) × (n.fine ≡ true → IsOwnOf s At x n.paid o.own)
@@ -65,7 +56,7 @@ pub data AreFormsNoted (s : Store) (At : ℕ → Message → Type 0) : List Shap
   noted_next : {x : Shape} {n : Note} {o : OwnNote} {ss : List Shape} {ns : List Note} {os : List OwnNote}
       → FormNotedAs s At x n o → AreFormsNoted s At ss ns os → AreFormsNoted s At (x ∷ ss) (n ∷ ns) (o ∷ os)
 
--- the same where atoms wait to be counted
+-- counts for an effect and atoms that wait to be counted, where there is one
 abbrev pub PileFor : (ℕ → Message → Type 0) → Option Pile → Option Effect → Type 0
 PileFor At None None = ⊤
 PileFor At None (Some es) = ⊥

@@ -10,34 +10,17 @@ ghost use Rattle.spi_intern.specs.declared.store.Store.{Store};
 ghost use Rattle.spi_intern.specs.Meaning.{NoneTwice};
 ghost use Rattle.spi_count.specs.declared.keys.Keys.{Keys};
 ghost use Rattle.spi_count.specs.Keeping.{with_keys, IsKeyed};
-ghost use Rattle.spi_infer.specs.Own.{CountsFor, PileFor};
+ghost use Rattle.spi_infer.specs.Own.{PileFor};
 ghost use Rattle.spi_infer.specs.Forms.{by_effects, keep, effect_of};
 ghost use Rattle.spi_infer.specs.Passes.{Note, scan, act, act_by, act_both, stuck_top_by, stuck_both, stuck_two_by, is_stuck, first_stuck, after_shape, both_shape};
 ghost use Rattle.spi_infer.specs.Accounts.{Tops, MayBelowIn, BothBelowIn, IsBeforeNode, NoteGiven, IsNoted};
 
 use crate::own::{Noted, OwnNote};
 use crate::sums::{after_form, both_form};
-use spi_count::{Keys, NoMemory, Pile, Sum};
+use spi_count::{Keys, NoMemory, Pile};
 use spi_intern::Store;
 use spi_term::{Form, Node, Process};
 use std::alloc::Global;
-
-// The counts of an effect, where there is one and no atom waits any more.
-fn counted(pile: Option<Pile>) -> Result<Option<Sum>, NoMemory>
-    ensures { IfOk result
-        (λ r. (s : Store) (keys : Keys) (e : Option Effect) → PileFor (with_keys s keys) pile e
-        → CountsFor (with_keys s keys) r e) }
-{
-    match pile {
-        None => Ok(None),
-        Some(pile) => {
-            let mut settled = pile;
-            settled.settle()?;
-            let Pile { sum, late: _ } = settled;
-            Ok(Some(sum))
-        }
-    }
-}
 
 /// One node with no process in it. Whether it has no effect.
 pub fn act_on_none(
@@ -91,19 +74,14 @@ pub fn act_on_one(
                 stack.push(None)?;
                 return Ok(true);
             }
-            let mut settled = pile;
-            settled.settle()?;
-            let Pile { sum, late } = settled;
-            let next = after_form(store, keys, node, note.own, sum)?;
-            match next {
-                None => {
-                    stack.push(None)?;
-                    Ok(true)
-                }
-                Some(sum) => {
-                    stack.push(Some(Pile { sum, late }))?;
-                    Ok(false)
-                }
+            let mut whole = pile;
+            let stays = after_form(store, keys, node, note.own, &mut whole)?;
+            if stays {
+                stack.push(Some(whole))?;
+                Ok(false)
+            } else {
+                stack.push(None)?;
+                Ok(true)
             }
         }
     }
@@ -136,9 +114,13 @@ pub fn both_of(
                 if !fine {
                     return Ok((None, true));
                 }
-                let next = both_form(node, a, b)?;
-                let is_stuck = next.is_none();
-                Ok((next, is_stuck))
+                let mut whole = b;
+                let stays = both_form(node, a, &mut whole)?;
+                if stays {
+                    Ok((Some(whole), false))
+                } else {
+                    Ok((None, true))
+                }
             }
         },
     }
@@ -207,14 +189,14 @@ pub fn account(
     noted: &Noted,
     store: &Store,
     from: u32,
-) -> Result<(Option<Sum>, Option<u32>), NoMemory>
+) -> Result<(Option<Pile>, Option<u32>), NoMemory>
     requires noted { (env : Env) × IsNoted store.now noted.now process.now.names process.now.process env }
     requires from { from < process_size process.now.process }
     ensures effect { IfOk result
         (λ r. (env e : Env) (q : ProcessTerm)
         → IsNoted store.now noted.now process.now.names process.now.process env
         → NodeOf env process.now.process from e q
-        → CountsFor (with_keys store.now noted.now.keys) r.0 (effect_of (numbered [] (length e) q) e)) }
+        → PileFor (with_keys store.now noted.now.keys) r.0 (effect_of (numbered [] (length e) q) e)) }
     ensures stuck { IfOk result
         (λ r. (env : Env) → IsNoted store.now noted.now process.now.names process.now.process env
         → r.1 ≡ first_stuck from (drop from (spelled process.now.names process.now.process))
@@ -233,10 +215,7 @@ pub fn account(
         }
     }
     match stack.pop() {
-        Some(pile) => {
-            let effect = counted(pile)?;
-            Ok((effect, stuck))
-        }
+        Some(pile) => Ok((pile, stuck)),
         None => Ok((None, stuck)),
     }
 }

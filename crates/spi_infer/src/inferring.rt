@@ -7,7 +7,7 @@ ghost use Rattle.spi_rules.specs.Environment.{Env};
 ghost use Rattle.spi_rules.specs.Blocking.{NodeOf};
 ghost use Rattle.spi_message.specs.Judging.{IsJudge, IsKept, Stands};
 ghost use Rattle.spi_count.specs.Keeping.{with_keys, IsKeyed};
-ghost use Rattle.spi_infer.specs.Own.{CountsFor};
+ghost use Rattle.spi_infer.specs.Own.{PileFor};
 ghost use Rattle.spi_infer.specs.Passes.{scan, first_stuck};
 ghost use Rattle.spi_infer.specs.Accounts.{IsReadAs};
 ghost use Rattle.spi_infer.specs.Inferring.{IsLeast, AnswersIn, AnswersOver, IsLeastAt};
@@ -16,7 +16,7 @@ use crate::accounts::account;
 use crate::noting::own_notes;
 use crate::steps::Steps;
 use crate::{Inferred, NoMemory};
-use spi_count::{Keys, Sum, effect_of_sum};
+use spi_count::{Keys, Pile, effect_of_pile};
 use spi_intern::Store;
 use spi_message::Judge;
 use spi_term::{Effect, Process};
@@ -29,16 +29,16 @@ fn read_back(
     alloc: Global,
     store: &Store,
     keys: &Keys,
-    sum: Option<Sum>,
+    pile: Option<Pile>,
 ) -> Result<Option<Effect>, NoMemory>
     requires { (es : Option EffectTerm) × IsKeyed store.now keys.now
-        × CountsFor (with_keys store.now keys.now) sum es }
+        × PileFor (with_keys store.now keys.now) pile es }
     ensures { IfOk result
-        (λ r. (es : Option EffectTerm) → CountsFor (with_keys store.now keys.now) sum es → IsReadAs r es) }
+        (λ r. (es : Option EffectTerm) → PileFor (with_keys store.now keys.now) pile es → IsReadAs r es) }
 {
-    match sum {
+    match pile {
         None => Ok(None),
-        Some(sum) => Ok(Some(effect_of_sum(alloc, store, keys, sum)?)),
+        Some(pile) => Ok(Some(effect_of_pile(alloc, store, keys, pile)?)),
     }
 }
 
@@ -71,8 +71,8 @@ fn least_from<L: Ledger>(
     let _ = process.len();
     let noted = own_notes(alloc, judge, process, steps)?;
     let store = judge.store();
-    let (sum, stuck) = account(alloc, process, &noted, store, node)?;
-    let effect = read_back(alloc, store, &noted.keys, sum)?;
+    let (pile, stuck) = account(alloc, process, &noted, store, node)?;
+    let effect = read_back(alloc, store, &noted.keys, pile)?;
     Ok((effect, stuck))
 }
 

@@ -1,9 +1,7 @@
 // The numbers of a form's messages and types: each is looked up once.
-ghost use Rattle.std.specs.Prelude.{IfOk, IfSome};
-ghost use Rattle.std.specs.Option.{option_map};
+ghost use Rattle.std.specs.Prelude.{IfOk, None, Some};
 ghost use Rattle.spi_term.specs.View.{message, ty as type_of, shape_of};
 ghost use Rattle.spi_message.specs.Judging.{IsKept};
-ghost use Rattle.spi_message.specs.Tested.{NumbersMessage, NumbersType};
 ghost use Rattle.spi_infer.specs.Terms.{terms, AreNumbers, AreTermsOf};
 
 use spi_intern::{MsgId, TyId};
@@ -22,50 +20,161 @@ pub struct Terms {
     pub second: TyId,
 }
 
-// The number of the message, where there is one.
-fn message_number(judge: &mut Judge, m: Option<&Msg>) -> Result<MsgId, NoMemory>
-    ensures at { IfOk result (λ id. IfSome m.entry (λ x. NumbersMessage judge.new id (message x.now))) }
-    ensures kept { IsKept judge.old judge.new }
-{
-    match m {
-        Some(m) => judge.message(m),
-        None => Ok(MsgId::at(0)),
-    }
-}
-
-// The number of the type, where there is one.
-#[tactic(auto, using(spi_message::proofs::Tested::kept_same))]
-fn type_number(alloc: Global, judge: &mut Judge, un: TyId, t: Option<&Ty>) -> Result<TyId, NoMemory>
-    ensures at { IfOk result (λ id. IfSome t.entry (λ x. NumbersType judge.new id (type_of x.now))) }
-    ensures kept { IsKept judge.old judge.new }
-{
-    match t {
-        Some(t) => judge.ty(alloc, t),
-        None => Ok(un),
-    }
-}
-
-// The numbers of `Un` and of these terms.
+// The numbers of `Un` and of no terms.
 #[tactic(auto, using(spi_message::proofs::Tested::kept_more))]
-fn numbers(
+fn of_nothing(judge: &mut Judge) -> Result<Terms, NoMemory>
+    ensures each { IfOk result (AreNumbers judge.new (terms None None None None)) }
+    ensures kept { IsKept judge.old judge.new }
+{
+    let un = judge.un()?;
+    let message = MsgId::at(0);
+    Ok(Terms {
+        un,
+        message,
+        other: message,
+        ty: un,
+        second: un,
+    })
+}
+
+// The numbers of `Un` and of a message.
+#[tactic(auto, using(spi_message::proofs::Tested::kept_more))]
+fn of_message(judge: &mut Judge, m: &Msg) -> Result<Terms, NoMemory>
+    ensures each { IfOk result (AreNumbers judge.new (terms (Some (message m.now)) None None None)) }
+    ensures kept { IsKept judge.old judge.new }
+{
+    let un = judge.un()?;
+    let message = judge.message(m)?;
+    Ok(Terms {
+        un,
+        message,
+        other: message,
+        ty: un,
+        second: un,
+    })
+}
+
+// The numbers of `Un` and of two messages.
+#[tactic(auto, using(spi_message::proofs::Tested::kept_more))]
+fn of_messages(judge: &mut Judge, m: &Msg, n: &Msg) -> Result<Terms, NoMemory>
+    ensures each { IfOk result
+        (AreNumbers judge.new (terms (Some (message m.now)) (Some (message n.now)) None None)) }
+    ensures kept { IsKept judge.old judge.new }
+{
+    let un = judge.un()?;
+    let message = judge.message(m)?;
+    let other = judge.message(n)?;
+    Ok(Terms {
+        un,
+        message,
+        other,
+        ty: un,
+        second: un,
+    })
+}
+
+// The numbers of `Un` and of a type.
+#[tactic(auto, using(spi_message::proofs::Tested::kept_more))]
+fn of_type(alloc: Global, judge: &mut Judge, t: &Ty) -> Result<Terms, NoMemory>
+    ensures each { IfOk result (AreNumbers judge.new (terms None None (Some (type_of t.now)) None)) }
+    ensures kept { IsKept judge.old judge.new }
+{
+    let un = judge.un()?;
+    let message = MsgId::at(0);
+    let ty = judge.ty(alloc, t)?;
+    Ok(Terms {
+        un,
+        message,
+        other: message,
+        ty,
+        second: un,
+    })
+}
+
+// The numbers of `Un`, of a message and of a type.
+#[tactic(auto, using(spi_message::proofs::Tested::kept_more))]
+fn of_both(alloc: Global, judge: &mut Judge, m: &Msg, t: &Ty) -> Result<Terms, NoMemory>
+    ensures each { IfOk result
+        (AreNumbers judge.new (terms (Some (message m.now)) None (Some (type_of t.now)) None)) }
+    ensures kept { IsKept judge.old judge.new }
+{
+    let un = judge.un()?;
+    let message = judge.message(m)?;
+    let ty = judge.ty(alloc, t)?;
+    Ok(Terms {
+        un,
+        message,
+        other: message,
+        ty,
+        second: un,
+    })
+}
+
+// The numbers of `Un`, of a message and of two types.
+#[tactic(auto, using(spi_message::proofs::Tested::kept_more))]
+fn of_types(alloc: Global, judge: &mut Judge, m: &Msg, t: &Ty, u: &Ty) -> Result<Terms, NoMemory>
+    ensures each { IfOk result
+        (AreNumbers judge.new
+        (terms (Some (message m.now)) None
+        (Some (type_of t.now)) (Some (type_of u.now)))) }
+    ensures kept { IsKept judge.old judge.new }
+{
+    let un = judge.un()?;
+    let message = judge.message(m)?;
+    let ty = judge.ty(alloc, t)?;
+    let second = judge.ty(alloc, u)?;
+    Ok(Terms {
+        un,
+        message,
+        other: message,
+        ty,
+        second,
+    })
+}
+
+// The numbers of `Un`, of two messages and of a type.
+#[tactic(auto, using(spi_message::proofs::Tested::kept_more))]
+fn of_sealed(alloc: Global, judge: &mut Judge, m: &Msg, n: &Msg, t: &Ty) -> Result<Terms, NoMemory>
+    ensures each { IfOk result
+        (AreNumbers judge.new
+        (terms (Some (message m.now)) (Some (message n.now))
+        (Some (type_of t.now)) None)) }
+    ensures kept { IsKept judge.old judge.new }
+{
+    let un = judge.un()?;
+    let message = judge.message(m)?;
+    let other = judge.message(n)?;
+    let ty = judge.ty(alloc, t)?;
+    Ok(Terms {
+        un,
+        message,
+        other,
+        ty,
+        second: un,
+    })
+}
+
+// The numbers of `Un`, of two messages and of two types.
+#[tactic(auto, using(spi_message::proofs::Tested::kept_more))]
+fn of_all(
     alloc: Global,
     judge: &mut Judge,
-    m: Option<&Msg>,
-    n: Option<&Msg>,
-    t: Option<&Ty>,
-    u: Option<&Ty>,
+    m: &Msg,
+    n: &Msg,
+    t: &Ty,
+    u: &Ty,
 ) -> Result<Terms, NoMemory>
     ensures each { IfOk result
         (AreNumbers judge.new
-        (terms (option_map (λ x. message x.now) m.entry) (option_map (λ x. message x.now) n.entry)
-        (option_map (λ x. type_of x.now) t.entry) (option_map (λ x. type_of x.now) u.entry))) }
+        (terms (Some (message m.now)) (Some (message n.now))
+        (Some (type_of t.now)) (Some (type_of u.now)))) }
     ensures kept { IsKept judge.old judge.new }
 {
-    let un = judge.ty(alloc, &Ty::Un)?;
-    let message = message_number(judge, m)?;
-    let other = message_number(judge, n)?;
-    let ty = type_number(alloc, judge, un, t)?;
-    let second = type_number(alloc, judge, un, u)?;
+    let un = judge.un()?;
+    let message = judge.message(m)?;
+    let other = judge.message(n)?;
+    let ty = judge.ty(alloc, t)?;
+    let second = judge.ty(alloc, u)?;
     Ok(Terms {
         un,
         message,
@@ -81,42 +190,36 @@ pub fn terms_of(alloc: Global, judge: &mut Judge, node: &Node) -> Result<Terms, 
     ensures kept { IsKept judge.old judge.new }
 {
     match &node.form {
-        Form::Send { channel, datum } => {
-            numbers(alloc, judge, Some(channel), Some(datum), None, None)
-        }
+        Form::Send { channel, datum } => of_messages(judge, channel, datum),
         Form::Recv { channel, ty, .. } | Form::Serve { channel, ty, .. } => {
-            numbers(alloc, judge, Some(channel), None, Some(ty), None)
+            of_both(alloc, judge, channel, ty)
         }
         Form::Split {
             whole,
             first,
             second,
             ..
-        } => numbers(alloc, judge, Some(whole), None, Some(first), Some(second)),
+        } => of_types(alloc, judge, whole, first, second),
         Form::Select {
             whole,
             first: t,
             equal: n,
             second: u,
             ..
-        } => numbers(alloc, judge, Some(whole), Some(n), Some(t), Some(u)),
+        } => of_all(alloc, judge, whole, n, t, u),
         Form::Branch {
             whole,
             left,
             right,
             ..
-        } => numbers(alloc, judge, Some(whole), None, Some(left), Some(right)),
-        Form::Decrypt { whole, ty, key, .. } => {
-            numbers(alloc, judge, Some(whole), Some(key), Some(ty), None)
-        }
-        Form::Check { whole, nonce, .. } => {
-            numbers(alloc, judge, Some(whole), Some(nonce), None, None)
-        }
-        Form::Begin { label, .. } => numbers(alloc, judge, Some(label), None, None, None),
-        Form::End { label, .. } => numbers(alloc, judge, Some(label), None, None, None),
-        Form::EndMany { label, .. } => numbers(alloc, judge, Some(label), None, None, None),
-        Form::Cast { whole, ty, .. } => { numbers(alloc, judge, Some(whole), None, Some(ty), None) }
-        Form::Fresh { ty, .. } => numbers(alloc, judge, None, None, Some(ty), None),
-        Form::Par { .. } | Form::Stop => numbers(alloc, judge, None, None, None, None),
+        } => of_types(alloc, judge, whole, left, right),
+        Form::Decrypt { whole, ty, key, .. } => of_sealed(alloc, judge, whole, key, ty),
+        Form::Check { whole, nonce, .. } => of_messages(judge, whole, nonce),
+        Form::Begin { label, .. } => of_message(judge, label),
+        Form::End { label, .. } => of_message(judge, label),
+        Form::EndMany { label, .. } => of_message(judge, label),
+        Form::Cast { whole, ty, .. } => of_both(alloc, judge, whole, ty),
+        Form::Fresh { ty, .. } => of_type(alloc, judge, ty),
+        Form::Par { .. } | Form::Stop => of_nothing(judge),
     }
 }

@@ -1,16 +1,16 @@
 -- What `Effects` has to know of its lists.
-use Rattle.std.proofs.Common.{◌≡◌, Bool, true, List, [], ◌∷◌, refl, sym, ap, ◌∙◌, true≢false}
+use Rattle.std.proofs.Common.{◌≡◌, ℕ, Bool, true, List, [], ◌∷◌, Some, slice_get, length, get_or, refl, sym, ap, subst, ◌∙◌, true≢false, arith}
 use lib.Pointwise.{pointwise}
 use Rattle.std.proofs.lemmas.Bool.{eqb-true, eq-eqb}
 use Rattle.spi_term.proofs.Counting.{and_true}
-use Rattle.spi_intern.specs.Table.{IsTable, tells_none}
+use Rattle.spi_intern.specs.Table.{IsTable, tells_none, told_each}
 use Rattle.spi_intern.specs.Atoms.{same_id_atom, same_atoms, AtomVec, SaysList, said_list}
 use Rattle.spi_intern.specs.declared.messages.MsgId.{MsgId}
 use Rattle.spi_intern.specs.declared.atoms.AtomId.{AtomId}
 use Rattle.spi_intern.specs.declared.atoms.AtomId.TheVariants.{End, Check, Many}
 use Rattle.spi_intern.specs.contracts.atoms.AtomIdPartialEq.TheImpl.{eq-value}
 use Rattle.spi_intern.proofs.MessageLaws.{both_are}
-use Rattle.spi_intern.proofs.Tables.{Laws}
+use Rattle.spi_intern.proofs.Tables.{Laws, tells_at}
 
 abbrev pub atom_eq : AtomId → AtomId → Bool
 atom_eq = eq-value.it
@@ -21,7 +21,7 @@ vec_eq v w = pointwise atom_eq v.items w.items
 pub id_of : (a b : MsgId) → a.place ≡ b.place → a ≡ b
 id_of a b e = λ i. record { place = e i }
 
-atom_true : (a b : AtomId) → atom_eq a b ≡ true → a ≡ b
+pub atom_true : (a b : AtomId) → atom_eq a b ≡ true → a ≡ b
 atom_true (End a) (End b) h = ap End (id_of a b (eqb-true a.place b.place h))
 atom_true (Check a) (Check b) h = ap Check (id_of a b (eqb-true a.place b.place h))
 atom_true (Many a) (Many b) h = ap Many (id_of a b (eqb-true a.place b.place h))
@@ -75,3 +75,15 @@ list_laws = record {
 
 pub no_lists : IsTable SaysList [] []
 no_lists = record { tells = tells_none; distinct = record { one = λ i j m a b. absurd cc } }
+
+-- what stands in a place that was noted
+pub list_noted : (ps : List AtomVec) (ls : List (List AtomId)) (i : ℕ) (q : AtomVec) (xs : List AtomId) → told_each said_list ps ≡ ls → IsTable SaysList ps (told_each said_list ps) → slice_get ps i ≡ Some q → q.items ≡ xs → slice_get ls i ≡ Some xs
+list_noted ps ls i q xs v t at e =
+    let w = tells_at t.tells i q at in
+    subst (λ ns. slice_get ns i ≡ Some xs) v (w.1 ∙ ap Some (sym w.2 ∙ e))
+
+-- a list of one
+pub one_item : {A : Type 0} (xs : List A) (d a : A) → length xs ≡ 1 → get_or xs 0 d ≡ a → xs ≡ a ∷ []
+one_item [] d a h e = absurd (omega arith)
+one_item (x ∷ []) d a h e = ap (λ y. y ∷ []) e
+one_item (x ∷ (y ∷ ys)) d a h e = absurd (omega arith)

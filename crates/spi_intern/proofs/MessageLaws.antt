@@ -1,16 +1,15 @@
 -- What `Messages` has to know of its nodes.
-use Rattle.std.proofs.Common.{◌≡◌, ℕ, Bool, true, false, ◌&&◌, List, [], ◌∷◌, ◌++◌, Some, slice_get, if◌then◌else◌, refl, sym, ap, subst, ◌∙◌, true≢false}
+use Rattle.std.proofs.Common.{◌≡◌, Bool, true, false, ◌&&◌, List, [], refl, sym, ap, subst, ◌∙◌, true≢false}
 use Rattle.std.proofs.lemmas.Bool.{eqb-true, eq-eqb}
-use Rattle.spi_term.specs.Term.{Message, name, pair, in_left, in_right, enc, hash, same_message, message_discrete}
-use Rattle.spi_intern.specs.Table.{KeepsAll, AllDiffer, IsTable, tells_none, told_each}
-use Rattle.spi_intern.specs.Messages.{Says, says_bound, says_name, says_unit, says_pair, says_left, says_right, says_enc, says_hash, said, message_added}
+use Rattle.spi_term.specs.Term.{Message, pair, in_left, in_right, enc, hash, same_message, message_discrete}
+use Rattle.spi_intern.specs.Table.{KeepsAll, AllDiffer, IsTable, tells_none}
+use Rattle.spi_intern.specs.Messages.{Says, says_bound, says_name, says_unit, says_pair, says_left, says_right, says_enc, says_hash, said}
 use Rattle.spi_intern.specs.declared.messages.MsgId.{MsgId}
 use Rattle.spi_intern.specs.declared.messages.MsgPart.{MsgPart}
 use Rattle.spi_intern.specs.declared.messages.MsgPart.TheVariants.{Bound, Name, Unit as NoParts, Pair, Inl, Inr, Enc, Hash}
 use Rattle.spi_intern.specs.contracts.messages.MsgPartPartialEq.TheImpl.{eq-value}
 use Rattle.spi_intern.specs.contracts.messages.MsgIdPartialEq.TheImpl.{eq-value as eq_of_ids}
-use Rattle.spi_intern.proofs.Lists.{any_from}
-use Rattle.spi_intern.proofs.Tables.{Laws, tells_at}
+use Rattle.spi_intern.proofs.Tables.{Laws}
 use Rattle.spi_term.specs.Substitution.{or_unit}
 use Rattle.spi_term.proofs.Counting.{and_true}
 
@@ -106,16 +105,3 @@ part_laws = record {
 
 pub no_messages : IsTable Says [] []
 no_messages = record { tells = tells_none; distinct = record { one = λ i j m a b. absurd cc } }
-
--- what is noted of a name
-pub name_noted : (ps : List MsgPart) (ms : List Message) (i x : ℕ) (p : MsgPart) → told_each said ps ≡ ms → IsTable Says ps (told_each said ps)
-    → slice_get ps i ≡ Some p → p ≡ Name x → slice_get ms i ≡ Some (name x)
-name_noted ps ms i x p v t at e =
-    let w = tells_at t.tells i p at in
-    let n : name x ≡ w.0 = says_said (subst (λ p. Says (told_each said ps) p w.0) e w.2) in
-    subst (λ ms. slice_get ms i ≡ Some (name x)) v (w.1 ∙ ap Some (sym n))
-
--- nothing is added where it stands
-pub name_there : (ms : List Message) (i x : ℕ) → slice_get ms i ≡ Some (name x) → ms ≡ message_added ms (name x)
-name_there ms i x at =
-    sym (ap (λ b. if b then ms else ms ++ name x ∷ []) (any_from (same_message (name x)) ms i (name x) at (same_self (name x))))

@@ -167,3 +167,14 @@ is_put {Says = Says} {said = said} {same = same} {eq = eq} laws ps qs ms p h = r
   kept = put_keeps Says said same eq laws ps qs ms p h;
   at = λ i s. put_at Says said same eq laws ps qs ms p h i s.0 s.1 s.2;
 }
+
+-- what stands in a place that was noted
+pub is_noted : {P M : Type 0} {Says : List M → P → M → Type 0} {said : List M → P → M} {same : M → M → Bool} {eq : P → P → Bool} → Laws Says said same eq → (ps : List P) (ms : List M) (i : ℕ) (p q : P) → told_each said ps ≡ ms → IsTable Says ps (told_each said ps) → slice_get ps i ≡ Some q → q ≡ p → slice_get ms i ≡ Some (said ms p)
+is_noted {Says = Says} {said = said} laws ps ms i p q v t at e =
+    let w = tells_at t.tells i q at in
+    let n : said (told_each said ps) p ≡ w.0 = laws.says_said _ p w.0 (subst (λ r. Says (told_each said ps) r w.0) e w.2) in
+    subst (λ ns. slice_get ns i ≡ Some (said ns p)) v (w.1 ∙ ap Some (sym n))
+
+-- nothing is added where it stands
+pub is_there : {P M : Type 0} {Says : List M → P → M → Type 0} {said : List M → P → M} {same : M → M → Bool} {eq : P → P → Bool} → Laws Says said same eq → (ms : List M) (i : ℕ) (m : M) → slice_get ms i ≡ Some m → ms ≡ with_value same ms m
+is_there {same = same} laws ms i m at = sym (ap (λ b. if b then ms else ms ++ m ∷ []) (any_from (same m) ms i m at (laws.same_self m)))

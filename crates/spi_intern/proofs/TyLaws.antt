@@ -1,9 +1,9 @@
 -- What `Types` has to know of its nodes.
-use Rattle.std.proofs.Common.{◌≡◌, ℕ, Bool, true, false, List, [], ◌∷◌, ◌++◌, Some, slice_get, if◌then◌else◌, refl, sym, ap, subst, ◌∙◌, true≢false}
+use Rattle.std.proofs.Common.{◌≡◌, Bool, true, false, List, [], refl, sym, ap, subst, ◌∙◌, true≢false}
 use Rattle.std.proofs.lemmas.Bool.{eqb-true, eq-eqb}
 use Rattle.spi_term.proofs.Counting.{and_true}
-use Rattle.spi_intern.specs.Table.{KeepsAll, AllDiffer, IsTable, tells_none, told_each, with_value}
-use Rattle.spi_intern.specs.Kinds.{Kind, un, pair, sum, key, same_kind, kind_discrete}
+use Rattle.spi_intern.specs.Table.{KeepsAll, AllDiffer, IsTable, tells_none}
+use Rattle.spi_intern.specs.Kinds.{Kind, pair, sum, key, same_kind, kind_discrete}
 use Rattle.spi_intern.specs.Typed.{SaysKind, says_un, says_unit, says_pair, says_sum, says_key, says_nonce, said_kind, or_un}
 use Rattle.spi_intern.specs.declared.types.TyId.{TyId}
 use Rattle.spi_intern.specs.declared.types.TyNode.{TyNode}
@@ -11,8 +11,7 @@ use Rattle.spi_intern.specs.declared.types.TyNode.TheVariants.{Un, Unit as NoPar
 use Rattle.spi_intern.specs.contracts.types.TyIdPartialEq.TheImpl.{eq-value as eq_of_ids}
 use Rattle.spi_intern.specs.contracts.types.TyNodePartialEq.TheImpl.{eq-value as eq_of_nodes}
 use Rattle.spi_intern.proofs.MessageLaws.{both_are}
-use Rattle.spi_intern.proofs.Lists.{any_from}
-use Rattle.spi_intern.proofs.Tables.{Laws, tells_at}
+use Rattle.spi_intern.proofs.Tables.{Laws}
 
 abbrev pub ty_id_eq : TyId → TyId → Bool
 ty_id_eq = eq_of_ids.it
@@ -29,7 +28,7 @@ id_self a = eq-eqb a.place a.place refl
 same_id : {a b : TyId} → a.place ≡ b.place → a ≡ b
 same_id e = λ i. record { place = e i }
 
-node_true : (p q : TyNode) → node_eq p q ≡ true → p ≡ q
+pub node_true : (p q : TyNode) → node_eq p q ≡ true → p ≡ q
 node_true Un Un h = refl
 node_true NoParts NoParts h = refl
 node_true (Pair a b) (Pair c d) h = let e = and_true (ty_id_eq a c) (ty_id_eq b d) h in λ i. Pair (id_true a c e.0 i) (id_true b d e.1 i)
@@ -84,16 +83,3 @@ kind_laws = record { same_true = kind_true; same_self = kind_self; kept = says_k
 
 pub no_types : IsTable SaysKind [] []
 no_types = record { tells = tells_none; distinct = record { one = λ i j m a b. absurd cc } }
-
--- what is noted of `Un`
-pub un_noted : (ps : List TyNode) (ks : List Kind) (i : ℕ) (p : TyNode) → told_each said_kind ps ≡ ks → IsTable SaysKind ps (told_each said_kind ps)
-    → slice_get ps i ≡ Some p → p ≡ Un → slice_get ks i ≡ Some un
-un_noted ps ks i p v t at e =
-    let w = tells_at t.tells i p at in
-    let n : un ≡ w.0 = says_said (told_each said_kind ps) Un w.0 (subst (λ p. SaysKind (told_each said_kind ps) p w.0) e w.2) in
-    subst (λ ks. slice_get ks i ≡ Some un) v (w.1 ∙ ap Some (sym n))
-
--- nothing is added where it stands
-pub un_there : (ks : List Kind) (i : ℕ) → slice_get ks i ≡ Some un → ks ≡ with_value same_kind ks un
-un_there ks i at =
-    sym (ap (λ b. if b then ks else ks ++ un ∷ []) (any_from (same_kind un) ks i un at (kind_self un)))

@@ -21,8 +21,8 @@ pub enum AtomId {
     Many(MsgId),
 }
 
-// The number of an atom's message.
-fn atom_id(messages: &mut Messages, a: &Atom) -> Result<AtomId, NoMemory>
+/// The number of an atom's message.
+pub fn atom_id(messages: &mut Messages, a: &Atom) -> Result<AtomId, NoMemory>
     ensures at { IfOk result (λ id. SaysAtom messages.new id (atom a.now)) }
     ensures grows { IfOk result
         (λ id. AddsMessages messages.old messages.new (λ x. PartOf x (message_of (atom a.now)))) }

@@ -9,6 +9,7 @@ ghost use Rattle.spi_intern.specs.Hashed.{mixed};
 ghost use Rattle.spi_intern.specs.Messages.{message_added, interned, Says, said};
 
 use crate::NoMemory;
+use crate::notes::Notes;
 use indexmap::IndexSet;
 use spi_term::Msg;
 use std::alloc::Global;
@@ -87,6 +88,8 @@ pub struct Messages {
     parts: IndexSet<MsgPart>,
     /// Where the lowest names may stand among the parts, so that they needn't be looked for.
     names: Vec<usize>,
+    /// Where other messages may stand.
+    notes: Notes,
 }
 
 impl Model for Messages {
@@ -116,6 +119,18 @@ fn is_name(part: MsgPart, x: u32) -> bool
     }
 }
 
+/// By which number the place of this part is noted.
+fn key_of(part: MsgPart) -> usize {
+    match part {
+        MsgPart::Bound(number) | MsgPart::Name(number) => number as usize,
+        MsgPart::Unit => 0,
+        MsgPart::Pair(first, second) | MsgPart::Enc(first, second) => {
+            first.place.wrapping_mul(31).wrapping_add(second.place)
+        }
+        MsgPart::Inl(part) | MsgPart::Inr(part) | MsgPart::Hash(part) => part.place,
+    }
+}
+
 impl Messages {
     /// No messages.
     pub fn new(alloc: Global) -> Messages
@@ -124,6 +139,7 @@ impl Messages {
         Messages {
             parts: IndexSet::new(alloc),
             names: Vec::new(alloc),
+            notes: Notes::new(alloc),
         }
     }
 
@@ -142,7 +158,8 @@ impl Messages {
         }
     }
 
-    /// The same, looked for among all parts.
+    /// The same, looked for only where no place of it was noted.
+    #[inline(always)]
     fn put_part(&mut self, part: MsgPart) -> Result<MsgId, NoMemory>
         requires { Says self.old part (said self.old part) }
         ensures grows { OnOk result (self.new ≡ message_added self.old (said self.old part)) }
@@ -151,8 +168,41 @@ impl Messages {
         ensures kept { KeepsAll self.old self.new }
         ensures distinct { AllDiffer self.new }
     {
+        match self.noted_part(part) {
+            Some(id) => Ok(id),
+            None => self.put_looked(part),
+        }
+    }
+
+    /// The same, looked for among all parts, and noted. It stays a function of its own, so that what was noted pays
+    /// nothing for it.
+    #[inline(never)]
+    fn put_looked(&mut self, part: MsgPart) -> Result<MsgId, NoMemory>
+        requires { Says self.old part (said self.old part) }
+        ensures grows { OnOk result (self.new ≡ message_added self.old (said self.old part)) }
+        ensures same { OnErr result (self.new ≡ self.old) }
+        ensures at { IfOk result (λ id. slice_get self.new id.place ≡ Some (said self.old part)) }
+        ensures kept { KeepsAll self.old self.new }
+        ensures distinct { AllDiffer self.new }
+    {
         let (place, _) = self.parts.insert_full(part)?;
+        self.notes.put(key_of(part), place);
         Ok(MsgId { place })
+    }
+
+    /// The number of a message, where it stands in the place that was noted.
+    #[inline(always)]
+    fn noted_part(&self, part: MsgPart) -> Option<MsgId>
+        ensures some { IfSome result (λ id. slice_get self.now id.place ≡ Some (said self.now part)) }
+        ensures distinct { AllDiffer self.now }
+    {
+        let place = self.notes.get(key_of(part))?;
+        let known = self.parts.get_index(place)?;
+        if *known == part {
+            Some(MsgId { place })
+        } else {
+            None
+        }
     }
 
     /// The number of a name, which is looked for only where no place of it was noted.

@@ -17,7 +17,21 @@ fn boxed(alloc: Global, m: Result<Msg, NoMemory>) -> Result<Box<Msg>, NoMemory>
     Ok(Box::new(alloc, m?)?)
 }
 
+// A part of a message: a name, as most are, is read in line.
+#[cycle(reading)]
+#[inline(always)]
+fn part_of(alloc: Global, store: &Store, id: MsgId) -> Result<Msg, NoMemory>
+    requires { id.place < length store.now.messages }
+    ensures { IfOk result (λ m. message m ≡ message_at store.now.messages id) }
+{
+    match store.part(id) {
+        MsgPart::Name(x) => Ok(Msg::Name(x)),
+        _ => message_of(alloc, store, id),
+    }
+}
+
 /// The message with a number. The time is linear in its nodes, and its only error is NoMemory.
+#[cycle(reading)]
 pub fn message_of(alloc: Global, store: &Store, id: MsgId) -> Result<Msg, NoMemory>
     requires { id.place < length store.now.messages }
     ensures { IfOk result (λ m. message m ≡ message_at store.now.messages id) }
@@ -27,8 +41,8 @@ pub fn message_of(alloc: Global, store: &Store, id: MsgId) -> Result<Msg, NoMemo
         MsgPart::Name(x) => Ok(Msg::Name(x)),
         MsgPart::Unit => Ok(Msg::Unit),
         MsgPart::Pair(a, b) => {
-            let first = message_of(alloc, store, a)?;
-            let second = message_of(alloc, store, b)?;
+            let first = part_of(alloc, store, a)?;
+            let second = part_of(alloc, store, b)?;
             Msg::paired(alloc, first, second)
         }
         MsgPart::Inl(a) => {

@@ -1,10 +1,10 @@
 // Messages and types with numbers.
 
-ghost use Rattle.std.specs.Prelude.{◌≡◌, ◌↔◌, ◌+◌, ◌<◌, ◌≤◌, ℕ, List, [], Some, IfOk, OnOk, slice_get, length};
+ghost use Rattle.std.specs.Prelude.{◌≡◌, ◌↔◌, ◌+◌, ◌<◌, ◌≤◌, ℕ, List, [], ◌∷◌, Some, IfOk, OnOk, slice_get, length};
 ghost use Rattle.spi_term.specs.Term as Term;
 ghost use Rattle.spi_term.specs.Term.{message_size};
 ghost use Rattle.spi_term.specs.SameTy.{SameTy};
-ghost use Rattle.spi_term.specs.View.{message, effect, ty};
+ghost use Rattle.spi_term.specs.View.{message, atom, effect, ty};
 ghost use Rattle.spi_intern.specs.declared.atoms.AtomId.{AtomId};
 ghost use Rattle.spi_intern.specs.Messages.{Says};
 ghost use Rattle.spi_intern.specs.Atoms.{SaysAtom, IdsMean};
@@ -18,11 +18,11 @@ ghost use Rattle.spi_intern.specs.Lent.{SaysTy};
 ghost use Rattle.spi_intern.specs.Given.{IsGiven, IsOverGiven, AreGiven};
 
 use crate::NoMemory;
-use crate::atoms::{AtomId, atom_ids, canonical};
+use crate::atoms::{AtomId, atom_id, atom_ids, canonical};
 use crate::effects::Effects;
 use crate::messages::{Messages, MsgId, MsgPart};
 use crate::types::{TyId, TyNode, Types};
-use spi_term::{Effect, Msg, Ty};
+use spi_term::{Atom, Effect, Msg, Ty};
 use std::alloc::Global;
 
 /// Messages and types, each with its number: equal messages have equal numbers, and so have types that are equal
@@ -87,6 +87,16 @@ impl Store {
         let id = self.intern(alloc, t)?;
         // The count is asked for what its answer says: nothing has two numbers.
         let _ = self.distinct();
+        Ok(id)
+    }
+
+    /// The number of `Un`, which has one afterwards. Nothing else is new.
+    pub fn un(&mut self) -> Result<TyId, NoMemory>
+        ensures at { IfOk result (λ id. Means self.new id.place Term.un) }
+        ensures adds { OnOk result (Adds self.old self.new (a_type Term.un)) }
+        ensures kept { Keeps self.old self.new }
+    {
+        let id = self.put_un()?;
         Ok(id)
     }
 
@@ -257,6 +267,23 @@ impl Store {
         self.put(TyNode::Nonce(place))
     }
 
+    // The number of the effect of one atom.
+    fn atom_alone(&mut self, alloc: Global, a: &Atom) -> Result<usize, NoMemory>
+        ensures at { IfOk result
+            (λ place. (ids : List AtomId) × (slice_get self.new.effects place ≡ Some ids)
+            × IdsMean self.new.messages ids (atom a.now ∷ [])) }
+        ensures adds { OnOk result
+            (AddsMessages self.old.messages self.new.messages (λ x. InEffect x (atom a.now ∷ []))) }
+        ensures types { self.new.types ≡ self.old.types }
+        ensures kept { Keeps self.old self.new }
+    {
+        let id = atom_id(&mut self.messages, a)?;
+        // The count is asked for what its answer says: no message has two numbers.
+        let _ = self.messages.count();
+        let place = self.effects.put_one(alloc, id)?;
+        Ok(place)
+    }
+
     // The number of an effect.
     fn effect(&mut self, alloc: Global, e: &Effect) -> Result<usize, NoMemory>
         ensures at { IfOk result
@@ -267,6 +294,9 @@ impl Store {
         ensures types { self.new.types ≡ self.old.types }
         ensures kept { Keeps self.old self.new }
     {
+        if e.atoms.len() == 1 {
+            return self.atom_alone(alloc, &e.atoms[0]);
+        }
         let written = atom_ids(alloc, &mut self.messages, e)?;
         // The count is asked for what its answer says: no message has two numbers.
         let _ = self.messages.count();

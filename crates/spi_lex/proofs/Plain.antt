@@ -1,6 +1,7 @@
 -- ASCII bytes at the front that continue a name.
-use Rattle.std.proofs.Common.{◌≡◌, ℕ, suc, ◌+◌, ◌-◌, ◌<◌, Bool, true, ◌||◌, ◌==◌, inl, inr, List, [], ◌∷◌, ◌++◌, length, drop, get_or, refl, sym, ◌∙◌, ap, subst, arith, leb}
+use Rattle.std.proofs.Common.{◌≡◌, ℕ, zero, suc, ◌+◌, ◌-◌, ◌<◌, ◌≤◌, Bool, true, ◌||◌, ◌==◌, inl, inr, List, [], ◌∷◌, ◌++◌, length, take, drop, length-drop, length-take-le, get_or, refl, sym, ◌∙◌, ap, subst, arith, leb}
 use Rattle.std.proofs.lemmas.Bool.{cases_Bool, cond-true, cond-false, agree_below_at, and_parts, and_from, leb-true, eqb-true, or_cases}
+use Rattle.std.proofs.lemmas.List.{drop-drop}
 use Rattle.std.proofs.lemmas.Str.{encode_ascii, IsCharBoundary-after_ascii}
 use Rattle.std.specs.List.{prefix_len}
 use Rattle.std.specs.Char.{is_ascii_alphabetic, is_ascii_alphanumeric}
@@ -26,6 +27,35 @@ plain_ascii b h = elim (or_cases (is_ascii_alphanumeric b) (b == 95) h) [
   ]
   | inr line ↦ (let e = eqb-true b 95 line in omega (arith, e))
 ]
+
+-- where the first of the text are all plain, the others are counted behind them
+pub run_goes_on : (n : ℕ) (text : List ℕ) → n ≤ length text → prefix_len is_plain (take n text) ≡ n
+    → prefix_len is_plain text ≡ n + prefix_len is_plain (drop n text)
+run_goes_on zero text h e = omega arith
+run_goes_on (suc n) [] h e = absurd (omega arith)
+run_goes_on (suc n) (b ∷ bs) h e = elim (cases_Bool (is_plain b)) [
+  | inl is ↦
+      let all : 1 + prefix_len is_plain (take n bs) ≡ suc n = sym (cond-true (is_plain b) (1 + prefix_len is_plain (take n bs)) 0 is) ∙ e in
+      let more = run_goes_on n bs (omega arith) (omega (arith, all)) in
+      cond-true (is_plain b) (1 + prefix_len is_plain bs) 0 is ∙ omega (arith, more)
+  | inr isnt ↦
+      let none : 0 ≡ suc n = sym (cond-false (is_plain b) (1 + prefix_len is_plain (take n bs)) 0 isnt) ∙ e in
+      absurd (omega (arith, none))
+]
+
+-- so sixteen more are counted
+pub sixteen_more : (text : List ℕ) (at : ℕ) → at + 16 ≤ length text → prefix_len is_plain text ≡ at + prefix_len is_plain (drop at text)
+    → prefix_len is_plain (take (at + 16 - at) (drop at text)) ≡ length (take (at + 16 - at) (drop at text))
+    → prefix_len is_plain text ≡ at + 16 + prefix_len is_plain (drop (at + 16) text)
+sixteen_more text at h so_far all =
+    let wide : at + 16 - at ≡ 16 = omega arith in
+    let rest : length (drop at text) ≡ length text - at = length-drop at text in
+    let fits : 16 ≤ length (drop at text) = omega (arith, rest) in
+    let sixteen : prefix_len is_plain (take 16 (drop at text)) ≡ 16 =
+    subst (λ (n : ℕ). prefix_len is_plain (take n (drop at text)) ≡ length (take n (drop at text))) wide all ∙ length-take-le 16 (drop at text) fits in
+    let more = run_goes_on 16 (drop at text) fits sixteen in
+    let past : prefix_len is_plain (drop 16 (drop at text)) ≡ prefix_len is_plain (drop (at + 16) text) = ap (prefix_len is_plain) (drop-drop 16 at text) in
+    omega (arith, so_far, more, past)
 
 -- they pass
 pub plain_passes : (text : List ℕ) → PassesNameCharacters text (drop (prefix_len is_plain text) text)

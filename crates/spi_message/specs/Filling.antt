@@ -1,6 +1,6 @@
 -- Messages for several binders at once: the machine by which a type under binders is read without being opened.
 use Rattle.std.specs.Prelude.{◌≡◌, ℕ, suc, ◌+◌, ◌-◌, ◌<◌, ◌^◌, min, nat_lt, if◌then◌else◌, List, map, length, Option, Some, None, slice_get}
-use Rattle.spi_term.specs.Term.{Message, bound, name, unit, pair, Atom, ends, checks, many, Ty, un, unit_ty, pair_ty, sum_ty, key, nonce}
+use Rattle.spi_term.specs.Term.{Message, bound, name, Atom, ends, checks, many, Ty, un, unit_ty, pair_ty, sum_ty, key, nonce}
 use Rattle.spi_term.specs.Substitution.{message_map, put, atom_map, effect_map, ty_map}
 use Rattle.spi_intern.specs.declared.messages.MsgId.{MsgId}
 use Rattle.spi_intern.specs.declared.types.TyId.{TyId}

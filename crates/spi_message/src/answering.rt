@@ -1,6 +1,6 @@
 // A question is asked once in an environment: its answer is kept there.
 
-ghost use Rattle.std.specs.Prelude.{◌≡◌, ◌<◌, ℕ, IfOk, OnOk, length};
+ghost use Rattle.std.specs.Prelude.{◌≡◌, IfOk, OnOk, length};
 ghost use Rattle.spi_intern.specs.Meaning.{Keeps};
 ghost use Rattle.spi_message.specs.Answered.{TellsTest, CanAsk, AreAnswers};
 ghost use Rattle.spi_message.specs.Added.{AnswerGives};
@@ -10,7 +10,7 @@ use crate::NoMemory;
 use crate::answers::{Answers, Asked};
 use crate::goodness::is_good_type;
 use crate::typing::{has_type, is_label};
-use spi_intern::{MsgId, MsgPart, Store, TyId};
+use spi_intern::{Store, TyId};
 use std::alloc::Global;
 
 // What the rules say.
@@ -35,25 +35,7 @@ fn ask(
     }
 }
 
-// What is asked of a name, which its type answers at once.
-fn is_of_a_name(store: &Store, asked: Asked) -> bool
-    requires { (names : ℕ) × CanAsk store.now names asked }
-{
-    match asked {
-        Asked::Typed(m, _) => is_name(store, m),
-        Asked::Labelled(m) => is_name(store, m),
-        Asked::Good(_) => false,
-    }
-}
-
-// Whether the message is a name.
-fn is_name(store: &Store, m: MsgId) -> bool
-    requires { m.place < length store.now.messages }
-{
-    matches!(store.part(m), MsgPart::Name(_))
-}
-
-/// The answer that is kept, or else what the rules say, which is kept from then on unless it is about a name. The
+/// The answer that is kept, or else what the rules say, which is kept from then on. The
 /// environment is as before.
 pub fn answered(
     alloc: Global,
@@ -71,9 +53,6 @@ pub fn answered(
     ensures types { types.new.items ≡ types.old.items }
     ensures answers { AreAnswers store.new types.new.items answers.new.given.entries }
 {
-    if is_of_a_name(store, asked) {
-        return ask(alloc, store, types, asked);
-    }
     let names = types.len();
     match answers.get(names, asked) {
         Some(answer) => Ok(answer),

@@ -5,6 +5,7 @@ ghost use Rattle.std.specs.Prelude.{◌≡◌, ◌≤◌, take};
 use crate::Judge;
 
 /// The names from this number on are taken away.
+#[inline(always)]
 pub fn cut_to(judge: &mut Judge, count: u32)
     requires { judge.old.free ≤ count }
     ensures types { judge.new.types ≡ take count judge.old.types }

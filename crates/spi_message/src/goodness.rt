@@ -10,7 +10,6 @@ use crate::NoMemory;
 use crate::filling::{filled_message, filled_type, message_of};
 use crate::typing::{has_type, is_label};
 use spi_intern::{AtomId, MsgId, MsgPart, Store, TyId, TyPart};
-use spi_term::Ty;
 use std::alloc::Global;
 
 fn is_good_atom(
@@ -31,7 +30,7 @@ fn is_good_atom(
     match a {
         AtomId::End(_) => is_label(alloc, store, env, filled),
         AtomId::Check(_) => {
-            let un = store.ty(alloc, &Ty::Un)?;
+            let un = store.un()?;
             let mut none = Vec::new(alloc);
             has_type(alloc, store, env, filled, un, &mut none)
         }

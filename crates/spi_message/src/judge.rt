@@ -19,6 +19,7 @@ use crate::NoMemory;
 use crate::answering::answered;
 use crate::answers::{Answers, Asked};
 use crate::filling::filled_type;
+use crate::telling::{is_told_good, is_told_label, told_type};
 use spi_intern::{MsgId, Store, TyId};
 use spi_term::{Msg, Ty};
 use std::alloc::Global;
@@ -26,7 +27,7 @@ use std::marker::Model;
 
 /// An environment over a store of its own: the type of each name is a number of that store. The first names, given
 /// at the start, are of type `Un` and stay. What was answered in an environment is kept for as long as its names are
-/// in scope, but for answers about a name, which are looked up.
+/// in scope, but for what a name's type or the names in scope tell at once.
 pub struct Judge {
     store: Store,
     types: Vec<TyId>,
@@ -197,7 +198,7 @@ impl Judge {
         self.store.key_over(payload)
     }
 
-    // The answer that is kept, or else what the rules say, which is kept from then on unless it is about a name.
+    // The answer that is kept, or else what the rules say, which is kept from then on.
     fn answer_in_scope(&mut self, alloc: Global, asked: Asked) -> Result<bool, NoMemory>
         requires { CanAsk self.old.store (length self.old.types) asked }
         ensures answer { IfOk result (TellsTest self.old.store self.old.types asked) }
@@ -213,7 +214,17 @@ impl Judge {
         )
     }
 
+    /// The number of `Un`, as `Store::un` of the judge's store gives it.
+    pub fn un(&mut self) -> Result<TyId, NoMemory>
+        ensures at { IfOk result (λ id. Means self.new.store id.place Term.un) }
+        ensures adds { OnOk result (Adds self.old.store self.new.store (a_type Term.un)) }
+        ensures kept { IsKept self.old self.new }
+    {
+        self.store.un()
+    }
+
     /// Whether the message has the type. Only types that a name of the message was compared with are new.
+    #[inline(always)]
     pub fn has_type(&mut self, alloc: Global, m: MsgId, t: TyId) -> Result<bool, NoMemory>
         requires message { m.place < length self.old.store.messages }
         requires ty { IsGiven self.old.store t.place }
@@ -228,7 +239,10 @@ impl Judge {
             → GivesOnly (Compared env n u) self.old.store self.new.store) }
         ensures kept { IsKept self.old self.new }
     {
-        self.answer_in_scope(alloc, Asked::Typed(m, t))
+        match told_type(&self.store, &self.types, m, t) {
+            Some(answer) => Ok(answer),
+            None => self.answer_in_scope(alloc, Asked::Typed(m, t)),
+        }
     }
 
     /// Whether the message is a label. Only types that a name of the message was compared with are new.
@@ -243,6 +257,9 @@ impl Judge {
             → GivesOnly (Compared env n Term.un) self.old.store self.new.store) }
         ensures kept { IsKept self.old self.new }
     {
+        if is_told_label(&self.store, &self.types, m) {
+            return Ok(true);
+        }
         self.answer_in_scope(alloc, Asked::Labelled(m))
     }
 
@@ -259,6 +276,9 @@ impl Judge {
             → GivesOnly (Examined env u) self.old.store self.new.store) }
         ensures kept { IsKept self.old self.new }
     {
+        if is_told_good(&self.store, &self.types, t) {
+            return Ok(true);
+        }
         self.answer_in_scope(alloc, Asked::Good(t))
     }
 

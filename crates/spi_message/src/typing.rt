@@ -15,7 +15,6 @@ use crate::NoMemory;
 use crate::filling::filled_type;
 use crate::heads::{is_un_type, is_unit_type, payload_of, sides_of};
 use spi_intern::{MsgId, MsgPart, Store, TyId, TyPart};
-use spi_term::Ty;
 use std::alloc::Global;
 
 // The T of a name of type Key(T).
@@ -196,7 +195,7 @@ fn is_sealed(
     match key_payload(store, env, key) {
         Some(payload) => has_type(alloc, store, env, body, payload, &mut values),
         None => {
-            let un = store.ty(alloc, &Ty::Un)?;
+            let un = store.un()?;
             if has_type(alloc, store, env, key, un, &mut values)? {
                 has_type(alloc, store, env, body, un, &mut values)
             } else {

@@ -6,6 +6,11 @@ use Rattle.spi_parse.specs.Tokens.{State}
 use Rattle.spi_parse.specs.Table.{ListItem, one, last}
 use Rattle.spi_parse.specs.Reading.{◌>>=◌, Out, Fails, next_list, front}
 
+-- before the first item
+pub front_none : {X E : Type 0} (r : Out (List X × E)) → front [] r ≡ r
+front_none (Err e) = refl
+front_none (Ok z) = refl
+
 module _ {X E : Type 0} (items : State → Out (ListItem X E)) (lists : State → Out (List X × E)) (law : (s : State) → lists s ≡ next_list (items s) lists) where
   -- after one more item
   regroup : (f : List X) (y : X) (r : Out (List X × E)) → front f (r >>= λ z. Ok ((y ∷ z.0.0, z.0.1), z.1)) ≡ front (f ++ y ∷ []) r

@@ -19,6 +19,7 @@ pub trait TreePart: Drop {
 ///
 /// What reads a process, a ciphertext or a sum holds its part as a box while it reads the next, so that deep trees fit the
 /// stack. The parts of a tuple are small, and wait as values.
+#[inline(always)]
 pub fn boxed<T: TreePart>(alloc: Global, tree: T, at: Cursor<'_>) -> Read<'_, Box<T>>
     ensures { GivesBox T.view result (done (T.view tree) (state_of at.entry)) }
 {

@@ -9,7 +9,7 @@ ghost use Rattle.spi_parse.specs.Ends.{done};
 ghost use Rattle.spi_parse.specs.Wholes.{one_form, two_form, three_form, sub_form};
 ghost use Rattle.spi_parse.specs.Rules.{arity_of, writes_effect, is_late};
 ghost use Rattle.spi_parse.specs.Shapes.{is_sub, is_rule, by_arity, IsTreeShape};
-ghost use Rattle.spi_parse.specs.Table.{deriv, over};
+ghost use Rattle.spi_parse.specs.Table.{deriv, word_at, over};
 ghost use Rattle.spi_parse.specs.Reading.{read, limited};
 
 use crate::cursor::{Cursor, DERIVATION_LIMIT, Read, accept, fits, placed_word, span_from, syntax};
@@ -17,7 +17,7 @@ use crate::effects::effect;
 use crate::messages::Node;
 use spi_lex::Kind;
 use spi_rules::Rule;
-use spi_text::Span;
+use spi_text::{Span, Text};
 use spi_tree::{SAtom, SDeriv, SWord};
 use std::alloc::Global;
 
@@ -118,6 +118,7 @@ fn make_use(rule: SWord, effect: Option<Vec<SAtom>>, premises: Vec<SDeriv>, span
 /// What reads a use holds the premises that it read in a vector, on the heap, while it reads the next, so that deep
 /// derivations fit the stack.
 #[cycle(derivations)]
+#[inline(always)]
 pub fn derivation(alloc: Global, at: Cursor<'_>, later: bool, nesting: u32) -> Part<'_>
     requires { nesting ≤ 1001 }
     ensures { GivesPart deriv_of result (read limited (deriv later nesting) (state_of at.entry)) }
@@ -135,48 +136,68 @@ pub fn derivation(alloc: Global, at: Cursor<'_>, later: bool, nesting: u32) -> P
     let shape = shape_of(later, word.as_str());
     accept(is_rule(shape), at.rest.len())?;
     fits(nesting, DERIVATION_LIMIT, at.rest.len())?;
-    let name = placed_word(alloc, word, first.span)?;
     match shape {
         Shape::NoRule => Err(syntax(at.rest.len())),
-        Shape::Leaf => end_use(name, None, Vec::new(alloc), next),
-        Shape::One => read_one(alloc, name, next, later, nesting),
-        Shape::Two => read_two(alloc, name, next, later, nesting),
-        Shape::Three => read_three(alloc, name, next, later, nesting),
-        Shape::Sub => read_sub(alloc, name, next, later, nesting),
+        Shape::Leaf => end_use(alloc, word, first.span, None, Vec::new(alloc), next),
+        Shape::One => read_one(alloc, word, first.span, next, later, nesting),
+        Shape::Two => read_two(alloc, word, first.span, next, later, nesting),
+        Shape::Three => read_three(alloc, word, first.span, next, later, nesting),
+        Shape::Sub => read_sub(alloc, word, first.span, next, later, nesting),
     }
 }
 
 #[cycle(derivations)]
-fn read_one(alloc: Global, name: SWord, at: Cursor<'_>, later: bool, nesting: u32) -> Part<'_>
+fn read_one<'t>(
+    alloc: Global,
+    word: &Text,
+    place: Span,
+    at: Cursor<'t>,
+    later: bool,
+    nesting: u32,
+) -> Part<'t>
     requires { nesting ≤ 1000 }
     ensures { GivesPart deriv_of result
-        (one_form later nesting name.word (name.span ∷ []) (state_of at.entry)) }
+        (one_form later nesting word.now (place ∷ []) (state_of at.entry)) }
 {
     let mut premises = Vec::with_capacity(alloc, 1)?;
     let (first, at) = derivation(alloc, at, later, nesting + 1)?;
     premises.push(first)?;
-    end_use(name, None, premises, at)
+    end_use(alloc, word, place, None, premises, at)
 }
 
 #[cycle(derivations)]
-fn read_two(alloc: Global, name: SWord, at: Cursor<'_>, later: bool, nesting: u32) -> Part<'_>
+fn read_two<'t>(
+    alloc: Global,
+    word: &Text,
+    place: Span,
+    at: Cursor<'t>,
+    later: bool,
+    nesting: u32,
+) -> Part<'t>
     requires { nesting ≤ 1000 }
     ensures { GivesPart deriv_of result
-        (two_form later nesting name.word (name.span ∷ []) (state_of at.entry)) }
+        (two_form later nesting word.now (place ∷ []) (state_of at.entry)) }
 {
     let mut premises = Vec::with_capacity(alloc, 2)?;
     let (first, at) = derivation(alloc, at, later, nesting + 1)?;
     premises.push(first)?;
     let (second, at) = derivation(alloc, at, later, nesting + 1)?;
     premises.push(second)?;
-    end_use(name, None, premises, at)
+    end_use(alloc, word, place, None, premises, at)
 }
 
 #[cycle(derivations)]
-fn read_three(alloc: Global, name: SWord, at: Cursor<'_>, later: bool, nesting: u32) -> Part<'_>
+fn read_three<'t>(
+    alloc: Global,
+    word: &Text,
+    place: Span,
+    at: Cursor<'t>,
+    later: bool,
+    nesting: u32,
+) -> Part<'t>
     requires { nesting ≤ 1000 }
     ensures { GivesPart deriv_of result
-        (three_form later nesting name.word (name.span ∷ []) (state_of at.entry)) }
+        (three_form later nesting word.now (place ∷ []) (state_of at.entry)) }
 {
     let mut premises = Vec::with_capacity(alloc, 3)?;
     let (first, at) = derivation(alloc, at, later, nesting + 1)?;
@@ -185,14 +206,21 @@ fn read_three(alloc: Global, name: SWord, at: Cursor<'_>, later: bool, nesting: 
     premises.push(second)?;
     let (third, at) = derivation(alloc, at, later, nesting + 1)?;
     premises.push(third)?;
-    end_use(name, None, premises, at)
+    end_use(alloc, word, place, None, premises, at)
 }
 
 #[cycle(derivations)]
-fn read_sub(alloc: Global, name: SWord, at: Cursor<'_>, later: bool, nesting: u32) -> Part<'_>
+fn read_sub<'t>(
+    alloc: Global,
+    word: &Text,
+    place: Span,
+    at: Cursor<'t>,
+    later: bool,
+    nesting: u32,
+) -> Part<'t>
     requires { nesting ≤ 1000 }
     ensures { GivesPart deriv_of result
-        (sub_form later nesting name.word (name.span ∷ []) (state_of at.entry)) }
+        (sub_form later nesting word.now (place ∷ []) (state_of at.entry)) }
 {
     let atoms = Node {
         later,
@@ -203,20 +231,24 @@ fn read_sub(alloc: Global, name: SWord, at: Cursor<'_>, later: bool, nesting: u3
     let mut premises = Vec::with_capacity(alloc, 1)?;
     let (first, at) = derivation(alloc, at, later, nesting + 1)?;
     premises.push(first)?;
-    end_use(name, Some(effect), premises, at)
+    end_use(alloc, word, place, Some(effect), premises, at)
 }
 
 /// The use of a rule with these premises, which ends before this place.
-fn end_use(
-    rule: SWord,
+#[inline(always)]
+fn end_use<'t>(
+    alloc: Global,
+    word: &Text,
+    place: Span,
     effect: Option<Vec<SAtom>>,
     premises: Vec<SDeriv>,
-    at: Cursor<'_>,
-) -> Part<'_>
+    at: Cursor<'t>,
+) -> Part<'t>
     ensures { GivesPart deriv_of result
-        (done (trees.rule (over (rule.span ∷ []) at.entry.end) rule (tree_effect effect)
+        (done (trees.rule (over (place ∷ []) at.entry.end) (word_at word.now place) (tree_effect effect)
         (derivs_of_list (map deriv_of premises.items))) (state_of at.entry)) }
 {
-    let span = span_from(rule.span, at);
+    let rule = placed_word(alloc, word, place)?;
+    let span = span_from(place, at);
     Ok((make_use(rule, effect, premises, span), at))
 }

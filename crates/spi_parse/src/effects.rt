@@ -8,7 +8,7 @@ ghost use Rattle.spi_parse.specs.Reading.{read, limited, behind_move, item_of};
 
 use crate::NoMemory;
 use crate::cursor::{Cursor, MESSAGE_LIMIT, Read, accept, fits, next_token, span_from, syntax};
-use crate::messages::{Node, message_of};
+use crate::messages::{Node, any_message, message_of};
 use spi_lex::{Kind, Mark, Reserved};
 use spi_text::Span;
 use spi_tree::SAtom;
@@ -40,7 +40,7 @@ fn atom(alloc: Global, at: Cursor<'_>, node: Node) -> Read<'_, SAtom>
         Kind::Reserved(Reserved::Many) => {
             accept(node.later, at.rest.len())?;
             fits(node.nesting, MESSAGE_LIMIT, at.rest.len())?;
-            let (label, at) = message_of(alloc, next, inner)?;
+            let (label, at) = any_message(alloc, next, inner)?;
             let span = span_from(first.span, at);
             Ok((SAtom::Many { label, span }, at))
         }

@@ -32,6 +32,7 @@ fn named(alloc: Global, at: Cursor<'_>, later: bool) -> TypedName<'_>
 }
 
 /// The closing parenthesis, and the semicolon.
+#[inline(always)]
 fn take_closing(at: Cursor<'_>) -> Result<Cursor<'_>, Stop>
     ensures { Gives (λ x. ((tt, (tt, tt)), state_of x)) result
         (read_all (read limited) (the_mark ParenClose ∷ the_mark Semicolon ∷ []) (state_of at.entry)) }

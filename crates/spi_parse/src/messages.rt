@@ -2,11 +2,11 @@
 
 ghost use Rattle.std.specs.Prelude.{◌≡◌, false, ◌+◌, ◌≤◌, [], ◌∷◌, map, IfOk};
 ghost use Rattle.spi_tree.specs.Trees.{Msg, name, tuple, msgs_of_list};
-ghost use Rattle.spi_tree.specs.Views.{msg_of};
+ghost use Rattle.spi_tree.specs.Views.{msg_of, more_items};
 ghost use Rattle.spi_parse.specs.Places.{state_of, tuple_form, enc_form, inl_form, inr_form, hash_form, GivesPart, GivesBox};
 ghost use Rattle.spi_parse.specs.Ends.{done, numeral_form};
 ghost use Rattle.spi_parse.specs.Table.{msg, msgs, msgs_item, delta_paren, word_at, over};
-ghost use Rattle.spi_parse.specs.Reading.{read, limited, behind_move, item_of};
+ghost use Rattle.spi_parse.specs.Reading.{read, limited, front, behind_move, item_of};
 
 use crate::NoMemory;
 use crate::boxes::{TreePart, boxed};
@@ -16,7 +16,7 @@ use crate::cursor::{
 use crate::reading::{take_mark, take_number};
 use spi_lex::{Kind, Mark, Reserved};
 use spi_text::{Span, Text};
-use spi_tree::{MsgParts, SMsg};
+use spi_tree::{More, MsgParts, SMsg};
 use std::alloc::Global;
 
 /// A message, with the place behind it.
@@ -28,15 +28,17 @@ impl TreePart for SMsg {
     ghost view = { msg_of };
 }
 
+#[inline(always)]
 fn make_tuple(
     alloc: Global,
     first: SMsg,
     second: SMsg,
-    more: Vec<SMsg>,
+    more: More,
     span: Span,
 ) -> Result<SMsg, NoMemory>
     ensures { IfOk result
-        (λ m. msg_of m ≡ tuple span (msg_of first) (msg_of second) (msgs_of_list (map msg_of more.items))) }
+        (λ m. msg_of m ≡ tuple span (msg_of first) (msg_of second)
+        (msgs_of_list (map msg_of (more_items more)))) }
 {
     let parts = MsgParts {
         first,
@@ -59,6 +61,7 @@ pub struct Node {
 }
 
 /// An outermost message with names.
+#[inline(always)]
 pub fn message(alloc: Global, at: Cursor<'_>, later: bool) -> Read<'_, SMsg>
     ensures { GivesPart msg_of result (read limited (msg later false 1) (state_of at.entry)) }
 {
@@ -70,9 +73,33 @@ pub fn message(alloc: Global, at: Cursor<'_>, later: bool) -> Read<'_, SMsg>
     message_of(alloc, at, node)
 }
 
-/// A message that stands so.
+/// A message that stands so. Most are names or in parentheses: only the others are read by a call for any form.
 #[cycle(messages)]
+#[inline(always)]
 pub fn message_of(alloc: Global, at: Cursor<'_>, node: Node) -> Part<'_>
+    requires { node.nesting ≤ 1001 }
+    ensures { GivesPart msg_of result
+        (read limited (msg node.later node.numbered node.nesting) (state_of at.entry)) }
+{
+    let (first, next) = next_token(at)?;
+    match &first.kind {
+        Kind::Word(word) => {
+            accept(!node.numbered, at.rest.len())?;
+            fits(node.nesting, MESSAGE_LIMIT, at.rest.len())?;
+            read_name(alloc, word, first.span, next)
+        }
+        Kind::Mark(Mark::ParenOpen) => {
+            fits(node.nesting, MESSAGE_LIMIT, at.rest.len())?;
+            message_in_parens(alloc, first.span, next, node)
+        }
+        _ => any_message(alloc, at, node),
+    }
+}
+
+/// A message that stands so, of any form.
+#[cycle(messages)]
+#[inline(never)]
+pub fn any_message(alloc: Global, at: Cursor<'_>, node: Node) -> Part<'_>
     requires { node.nesting ≤ 1001 }
     ensures { GivesPart msg_of result
         (read limited (msg node.later node.numbered node.nesting) (state_of at.entry)) }
@@ -125,6 +152,7 @@ fn boxed_message(alloc: Global, at: Cursor<'_>, node: Node) -> Read<'_, Box<SMsg
     boxed(alloc, tree, at)
 }
 
+#[inline(always)]
 fn read_name<'t>(alloc: Global, word: &Text, span: Span, at: Cursor<'t>) -> Part<'t>
     ensures { GivesPart msg_of result (done (name span (word_at word.now span)) (state_of at.entry)) }
 {
@@ -240,42 +268,79 @@ fn read_tuple(alloc: Global, opening: Span, at: Cursor<'_>, node: Node) -> Part<
 }
 
 /// The tuple of these parts, which ends before this place.
+#[inline(always)]
 fn end_tuple(
     alloc: Global,
     opening: Span,
     first: SMsg,
     second: SMsg,
-    more: Vec<SMsg>,
+    more: More,
     at: Cursor<'_>,
 ) -> Part<'_>
     ensures { GivesPart msg_of result
         (done (tuple (over (opening ∷ []) at.entry.end) (msg_of first) (msg_of second)
-        (msgs_of_list (map msg_of more.items))) (state_of at.entry)) }
+        (msgs_of_list (map msg_of (more_items more)))) (state_of at.entry)) }
 {
     let span = span_from(opening, at);
     let whole = make_tuple(alloc, first, second, more, span)?;
     Ok((whole, at))
 }
 
+/// The components of a tuple behind the first two.
 #[cycle(messages)]
-fn more_messages(alloc: Global, start: Cursor<'_>, node: Node) -> Read<'_, Vec<SMsg>>
+#[inline(always)]
+fn more_messages(alloc: Global, at: Cursor<'_>, node: Node) -> Read<'_, More>
     requires { node.nesting ≤ 1001 }
-    ensures { GivesPart (λ v. (map msg_of v.items, tt)) result
-        (read limited (msgs node.later node.numbered node.nesting) (state_of start.entry)) }
+    ensures { GivesPart (λ v. (map msg_of (more_items v), tt)) result
+        (read limited (msgs node.later node.numbered node.nesting) (state_of at.entry)) }
+{
+    let (item, at) = next_message(alloc, at, node)?;
+    match item {
+        Some(third) => behind_third(alloc, third, at, node),
+        None => Ok((More::None, at)),
+    }
+}
+
+/// The third component of a tuple with those behind it.
+#[cycle(messages)]
+#[inline(always)]
+fn behind_third(alloc: Global, third: SMsg, at: Cursor<'_>, node: Node) -> Read<'_, More>
+    requires { node.nesting ≤ 1001 }
+    ensures { GivesPart (λ v. (map msg_of (more_items v), tt)) result
+        (front (msg_of third ∷ [])
+        (read limited (msgs node.later node.numbered node.nesting) (state_of at.entry))) }
+{
+    let (first, next) = next_token(at)?;
+    match first.kind {
+        Kind::Mark(Mark::ParenClose) => Ok((More::One(third), next)),
+        _ => several_messages(alloc, third, at, node),
+    }
+}
+
+/// The third component of a tuple with those behind it, of which there are several.
+#[cycle(messages)]
+#[inline(never)]
+fn several_messages(alloc: Global, third: SMsg, start: Cursor<'_>, node: Node) -> Read<'_, More>
+    requires { node.nesting ≤ 1001 }
+    ensures { GivesPart (λ v. (map msg_of (more_items v), tt)) result
+        (front (msg_of third ∷ [])
+        (read limited (msgs node.later node.numbered node.nesting) (state_of start.entry))) }
 {
     let mut more = Vec::new(alloc);
+    more.push(third)?;
     let mut at = start;
     'items: loop {
         let (item, after) = next_message(alloc, at, node)?;
         match item {
             Some(part) => more.push(part)?,
-            None => return Ok((more, after)),
+            None => return Ok((More::Several(more), after)),
         }
         at = after;
     }
 }
 
 #[cycle(messages)]
+#[inline(always)]
 fn next_message(alloc: Global, at: Cursor<'_>, node: Node) -> Read<'_, Option<SMsg>>
     requires { node.nesting ≤ 1001 }
     ensures { GivesPart (item_of msg_of tt) result

@@ -73,6 +73,7 @@ fn sequence(alloc: Global, at: Cursor<'_>, later: bool, nesting: u32) -> Part<'_
 }
 
 #[cycle(processes)]
+#[inline(always)]
 fn read_form(alloc: Global, form: Form, at: Cursor<'_>, later: bool, nesting: u32) -> Part<'_>
     requires { nesting ≤ 501 }
     ensures { GivesBox proc_of result (by_form later nesting form (state_of at.entry)) }
@@ -196,6 +197,7 @@ fn make_out(channel: SMsg, datum: SMsg, then: Option<Box<SProc>>, span: Span) ->
 
 /// The channel, the name and the process of a form that receives.
 #[cycle(processes)]
+#[inline(always)]
 fn read_receiving(
     alloc: Global,
     at: Cursor<'_>,
@@ -376,6 +378,7 @@ fn read_check(alloc: Global, first: Span, at: Cursor<'_>, later: bool, nesting: 
 
 /// The label of an event, and the process behind it.
 #[cycle(processes)]
+#[inline(always)]
 fn read_label(
     alloc: Global,
     at: Cursor<'_>,

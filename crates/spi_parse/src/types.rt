@@ -65,9 +65,27 @@ fn make_tuple_type(
     })
 }
 
-/// A type of a nesting.
+/// A type of a nesting. Most are `Un`: only the others are read by a call for any form.
 #[cycle(types)]
+#[inline(always)]
 pub fn read_type(alloc: Global, at: Cursor<'_>, later: bool, nesting: u32) -> Part<'_>
+    requires { nesting ≤ 1001 }
+    ensures { GivesPart ty_of result (read limited (ty later nesting) (state_of at.entry)) }
+{
+    let (first, next) = next_token(at)?;
+    match first.kind {
+        Kind::Reserved(Reserved::Un) => {
+            fits(nesting, MESSAGE_LIMIT, at.rest.len())?;
+            Ok((STy::Un { span: first.span }, next))
+        }
+        _ => any_type(alloc, at, later, nesting),
+    }
+}
+
+/// A type of a nesting, of any form.
+#[cycle(types)]
+#[inline(never)]
+fn any_type(alloc: Global, at: Cursor<'_>, later: bool, nesting: u32) -> Part<'_>
     requires { nesting ≤ 1001 }
     ensures { GivesPart ty_of result (read limited (ty later nesting) (state_of at.entry)) }
 {

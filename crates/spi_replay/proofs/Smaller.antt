@@ -1,5 +1,5 @@
 -- A walk over a message goes on to smaller parts, whose numbers are below a store's length.
-use Rattle.std.proofs.Common.{◌≡◌, ◌⊎◌, inl, inr, ℕ, ◌<◌, List, length, ap, subst, arith}
+use Rattle.std.proofs.Common.{◌≡◌, ◌⊎◌, inl, inr, ℕ, ◌+◌, ◌*◌, ◌<◌, List, length, ap, subst, arith}
 use Rattle.spi_term.specs.Term.{Message, pair, in_left, in_right, enc, hash, message_size}
 use Rattle.spi_term.specs.View.{message}
 use Rattle.spi_term.specs.declared.term.Msg.{Msg}
@@ -32,6 +32,16 @@ second_less e w = (omega (arith, w.size, e), w.second)
 
 pub part_less : {ms : List Message} {m a : MsgId} {f : Message → Message} {t : ℕ} → message_size (message_at ms m) ≡ t → OneOf ms m a f → (message_size (message_at ms a) < t) × (a.place < length ms)
 part_less e w = (omega (arith, w.size, e), w.part)
+
+-- the same where a walk takes two steps for a node
+pub first_less_twice : {ms : List Message} {m a b : MsgId} {f : Message → Message → Message} {t : ℕ} → 2 * message_size (message_at ms m) ≡ t → TwoOf ms m a b f → (2 * message_size (message_at ms a) + 1 < t) × (a.place < length ms)
+first_less_twice e w = (omega (arith, w.size, e), w.first)
+
+pub second_less_twice : {ms : List Message} {m a b : MsgId} {f : Message → Message → Message} {t : ℕ} → 2 * message_size (message_at ms m) ≡ t → TwoOf ms m a b f → (2 * message_size (message_at ms b) + 1 < t) × (b.place < length ms)
+second_less_twice e w = (omega (arith, w.size, e), w.second)
+
+pub part_less_twice : {ms : List Message} {m a : MsgId} {f : Message → Message} {t : ℕ} → 2 * message_size (message_at ms m) ≡ t → OneOf ms m a f → (2 * message_size (message_at ms a) < t) × (a.place < length ms)
+part_less_twice e w = (omega (arith, w.size, e), w.part)
 
 -- the same of a message that is read
 pub read_less : {m w a d : Msg} {t : ℕ} → message_size (message m) ≡ t → m ≡ w → d ≡ a → message_size (message a) < message_size (message w) → message_size (message d) < t

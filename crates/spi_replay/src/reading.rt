@@ -9,7 +9,21 @@ ghost use Rattle.spi_replay.specs.Waiting.{wait_within, wait_largest};
 use crate::waits::Wait;
 use spi_intern::{MsgId, MsgPart, Store};
 
+// How many nodes there are after so many, with those of a part: a name isn't gone into.
+#[cycle(nodes)]
+#[inline(always)]
+fn nodes_after_part(store: &Store, id: MsgId, before: u64) -> u64
+    requires { id.place < length store.now.messages }
+    ensures { result ≡ stopped (before + message_size (message_at store.now.messages id)) }
+{
+    match store.part(id) {
+        MsgPart::Name(_) => before.saturating_add(1),
+        _ => nodes_after(store, id, before),
+    }
+}
+
 // How many nodes there are after so many, with those of the message with a number.
+#[cycle(nodes)]
 fn nodes_after(store: &Store, id: MsgId, before: u64) -> u64
     requires { id.place < length store.now.messages }
     ensures { result ≡ stopped (before + message_size (message_at store.now.messages id)) }
@@ -18,8 +32,8 @@ fn nodes_after(store: &Store, id: MsgId, before: u64) -> u64
     match store.part(id) {
         MsgPart::Bound(_) | MsgPart::Name(_) | MsgPart::Unit => here,
         MsgPart::Pair(a, b) | MsgPart::Enc(a, b) => {
-            let first = nodes_after(store, a, here);
-            nodes_after(store, b, first)
+            let first = nodes_after_part(store, a, here);
+            nodes_after_part(store, b, first)
         }
         MsgPart::Inl(a) | MsgPart::Inr(a) | MsgPart::Hash(a) => nodes_after(store, a, here),
     }

@@ -9,7 +9,7 @@ use Rattle.spi_rules.specs.declared.rule.Rule.TheVariants.{MsgName, MsgUnit, Msg
 use Rattle.spi_rules.specs.Rule.{rule_spelled, named}
 
 abbrev pub rules : List Rule
-rules = ProcDecrypt ∷ ProcSplitUn ∷ ProcMatchUn ∷ ProcCheckUn ∷ ProcDecryptUn ∷ ProcEndMany ∷ MsgName ∷ MsgUnit ∷ MsgUnitUn ∷ MsgPair ∷ MsgPairUn ∷ MsgInl ∷ MsgInlUn ∷ MsgInr ∷ MsgInrUn ∷ MsgEnc ∷ MsgEncUn ∷ MsgHash ∷ ProcStop ∷ ProcOut ∷ ProcIn ∷ ProcRepeat ∷ ProcSplit ∷ ProcMatch ∷ ProcCase ∷ ProcCaseUn ∷ ProcCheck ∷ ProcBegin ∷ ProcEnd ∷ ProcCast ∷ ProcCastUn ∷ ProcNew ∷ ProcPar ∷ ProcSub ∷ []
+rules = ProcDecryptUn ∷ MsgName ∷ MsgUnit ∷ MsgUnitUn ∷ MsgPair ∷ MsgPairUn ∷ MsgInl ∷ MsgInlUn ∷ MsgInr ∷ MsgInrUn ∷ MsgEnc ∷ MsgEncUn ∷ MsgHash ∷ ProcStop ∷ ProcOut ∷ ProcIn ∷ ProcRepeat ∷ ProcSplit ∷ ProcSplitUn ∷ ProcMatch ∷ ProcMatchUn ∷ ProcCase ∷ ProcCaseUn ∷ ProcDecrypt ∷ ProcCheck ∷ ProcCheckUn ∷ ProcBegin ∷ ProcEnd ∷ ProcEndMany ∷ ProcCast ∷ ProcCastUn ∷ ProcNew ∷ ProcPar ∷ ProcSub ∷ []
 
 pub each_named : (r : Rule) → named rules (rule_spelled r) ≡ Some r
 each_named MsgName = refl

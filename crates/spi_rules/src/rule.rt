@@ -1,7 +1,9 @@
 // The rules of the two tables by name.
 
-ghost use Rattle.std.specs.Prelude.{◌≡◌, ◌≤◌, ◌++◌, codes, IfSome, IsNone};
+ghost use Rattle.std.specs.Prelude.{◌≡◌, ◌≤◌, IfSome, IsNone};
 ghost use Rattle.spi_rules.specs.Rule.{arity, rule_spelled, named};
+
+use crate::told::told;
 
 /// A rule of the type system, named as its row in the tables of rules. `MsgHash` and `ProcEndMany` are rules of
 /// version 2 derivations.
@@ -43,14 +45,9 @@ pub enum Rule {
     ProcSub,
 }
 
-// All rules. Those that `told` overlooks stand first.
+// All rules. The one that `told` overlooks stands first.
 const RULES: [Rule; 34] = [
-    Rule::ProcDecrypt,
-    Rule::ProcSplitUn,
-    Rule::ProcMatchUn,
-    Rule::ProcCheckUn,
     Rule::ProcDecryptUn,
-    Rule::ProcEndMany,
     Rule::MsgName,
     Rule::MsgUnit,
     Rule::MsgUnitUn,
@@ -68,12 +65,17 @@ const RULES: [Rule; 34] = [
     Rule::ProcIn,
     Rule::ProcRepeat,
     Rule::ProcSplit,
+    Rule::ProcSplitUn,
     Rule::ProcMatch,
+    Rule::ProcMatchUn,
     Rule::ProcCase,
     Rule::ProcCaseUn,
+    Rule::ProcDecrypt,
     Rule::ProcCheck,
+    Rule::ProcCheckUn,
     Rule::ProcBegin,
     Rule::ProcEnd,
+    Rule::ProcEndMany,
     Rule::ProcCast,
     Rule::ProcCastUn,
     Rule::ProcNew,
@@ -171,66 +173,18 @@ impl Rule {
     {
         match told(word.as_bytes()) {
             Some(rule) => Some(rule),
-            None => named(&RULES, word),
+            None => gone_over(word),
         }
     }
 }
 
-// The rule for messages whose name goes on so.
-fn told_of_messages(rest: &[u8]) -> Option<Rule>
-    ensures { IfSome result (λ rule. rule_spelled rule ≡ codes "Msg" ++ rest.now) }
+// The first of the rules with this name, where all are gone over.
+#[inline(never)]
+fn gone_over(word: &str) -> Option<Rule>
+    ensures some { IfSome result (λ rule. rule_spelled rule ≡ word.now) }
+    ensures none { IsNone result → (rule : Rule) → rule_spelled rule ≡ word.now → ⊥ }
 {
-    match rest {
-        [b'N', b'a', b'm', b'e'] => Some(Rule::MsgName),
-        [b'U', b'n', b'i', b't'] => Some(Rule::MsgUnit),
-        [b'U', b'n', b'i', b't', b'U', b'n'] => Some(Rule::MsgUnitUn),
-        [b'P', b'a', b'i', b'r'] => Some(Rule::MsgPair),
-        [b'P', b'a', b'i', b'r', b'U', b'n'] => Some(Rule::MsgPairUn),
-        [b'I', b'n', b'l'] => Some(Rule::MsgInl),
-        [b'I', b'n', b'l', b'U', b'n'] => Some(Rule::MsgInlUn),
-        [b'I', b'n', b'r'] => Some(Rule::MsgInr),
-        [b'I', b'n', b'r', b'U', b'n'] => Some(Rule::MsgInrUn),
-        [b'E', b'n', b'c'] => Some(Rule::MsgEnc),
-        [b'E', b'n', b'c', b'U', b'n'] => Some(Rule::MsgEncUn),
-        [b'H', b'a', b's', b'h'] => Some(Rule::MsgHash),
-        _ => None,
-    }
-}
-
-// The rule for processes whose name goes on so, by six bytes at most.
-fn told_of_processes(rest: &[u8]) -> Option<Rule>
-    ensures { IfSome result (λ rule. rule_spelled rule ≡ codes "Proc" ++ rest.now) }
-{
-    match rest {
-        [b'S', b't', b'o', b'p'] => Some(Rule::ProcStop),
-        [b'O', b'u', b't'] => Some(Rule::ProcOut),
-        [b'I', b'n'] => Some(Rule::ProcIn),
-        [b'R', b'e', b'p', b'e', b'a', b't'] => Some(Rule::ProcRepeat),
-        [b'S', b'p', b'l', b'i', b't'] => Some(Rule::ProcSplit),
-        [b'M', b'a', b't', b'c', b'h'] => Some(Rule::ProcMatch),
-        [b'C', b'a', b's', b'e'] => Some(Rule::ProcCase),
-        [b'C', b'a', b's', b'e', b'U', b'n'] => Some(Rule::ProcCaseUn),
-        [b'C', b'h', b'e', b'c', b'k'] => Some(Rule::ProcCheck),
-        [b'B', b'e', b'g', b'i', b'n'] => Some(Rule::ProcBegin),
-        [b'E', b'n', b'd'] => Some(Rule::ProcEnd),
-        [b'C', b'a', b's', b't'] => Some(Rule::ProcCast),
-        [b'C', b'a', b's', b't', b'U', b'n'] => Some(Rule::ProcCastUn),
-        [b'N', b'e', b'w'] => Some(Rule::ProcNew),
-        [b'P', b'a', b'r'] => Some(Rule::ProcPar),
-        [b'S', b'u', b'b'] => Some(Rule::ProcSub),
-        _ => None,
-    }
-}
-
-// The rule with this name. Six long ones are overlooked.
-fn told(name: &[u8]) -> Option<Rule>
-    ensures { IfSome result (λ rule. rule_spelled rule ≡ name.now) }
-{
-    match name {
-        [b'M', b's', b'g', rest @ ..] => told_of_messages(rest),
-        [b'P', b'r', b'o', b'c', rest @ ..] => told_of_processes(rest),
-        _ => None,
-    }
+    named(&RULES, word)
 }
 
 // The first of the rules with this name.

@@ -1,29 +1,32 @@
 -- Counts of nodes, and what is wrong where they are tested.
-use Rattle.std.proofs.Common.{◌≡◌, ℕ, suc, ◌+◌, ◌-◌, ◌<◌, ◌≤◌, List, [], ◌∷◌, length, Bool, true, false, refl, sym, ap, ◌∙◌, arith, add-zero}
-use Rattle.std.specs.Prelude.{Option, Some, None, Ok, Err, nat_lt, if◌then◌else◌}
+use Rattle.std.proofs.Common.{◌≡◌, ℕ, suc, ◌+◌, ◌-◌, ◌<◌, ◌≤◌, List, [], ◌∷◌, length, Bool, true, false, refl, sym, ap, ◌∙◌, arith, add-zero, inl, inr}
+use Rattle.std.specs.Prelude.{◌⊎◌, Option, Some, None, Ok, Err, nat_lt, if◌then◌else◌}
 use Rattle.std.proofs.lemmas.Bool.{lt-ltb, le-ltb}
 use Rattle.spi_text.specs.declared.lines.Span.{Span}
+use Rattle.spi_tree.specs.declared.tree.SWord.{SWord}
 use Rattle.spi_tree.specs.Trees as t
 use Rattle.spi_term.specs.Term.{name, bound, message_size}
 use Rattle.spi_term.specs.Spelling.{atom_nodes, effect_nodes, ty_nodes, stopped}
-use Rattle.spi_scope.specs.declared.fault.ScopeFault.TheVariants.{MessageTooLarge, TypeTooLarge, FileTooLarge, ScheduleTooLong}
+use Rattle.spi_scope.specs.declared.fault.ScopeFault.{ScopeFault}
+use Rattle.spi_scope.specs.declared.fault.ScopeFault.TheVariants.{NoMemory as OutOfMemory, UnknownName, MessageTooLarge, TypeTooLarge, FileTooLarge, ScheduleTooLong}
 use Rattle.spi_scope.specs.Scope.{Names, number_of, Abbreviations}
 use Rattle.spi_scope.specs.Meaning.{name_meant, message_in, messages_in, atom_in, effect_in, type_in, fields_in, last_in, behind}
-use Rattle.spi_scope.specs.Points.{msg_nodes, type_nodes, fault_at, ends_message, ends_type, adds, starts_step}
-use Rattle.spi_scope.specs.Gives.{unless}
+use Rattle.spi_scope.specs.Points.{msg_nodes, type_nodes, fault_at, uses_name, ends_message, ends_type, adds, starts_step, one, part, whole_type}
+use Rattle.spi_scope.specs.Gives.{Ran, FailsWith, after, unless, run}
 use Rattle.spi_scope.specs.State.{row_nodes, type_row_nodes}
 use Rattle.spi_scope.proofs.Tuples.{nested_nodes, nested_types_nodes}
 
-named_size : (k l s : ℕ) (o : Option ℕ) → message_size (name_meant k s o) ≡ message_size (name_meant l s o)
-named_size k l s None = refl
-named_size k l s (Some x) = by (nat_lt x k) (nat_lt x l)
+-- a name is one node
+pub name_size : (k s : ℕ) (o : Option ℕ) → message_size (name_meant k s o) ≡ 1
+name_size k s None = refl
+name_size k s (Some x) = by (nat_lt x k)
   where
-    size : (b : Bool) → message_size (if b then name x else bound (s - suc x)) ≡ 1
-    size true = refl
-    size false = refl
+    by : (b : Bool) → message_size (if b then name x else bound (s - suc x)) ≡ 1
+    by true = refl
+    by false = refl
 
-    by : (b d : Bool) → message_size (if b then name x else bound (s - suc x)) ≡ message_size (if d then name x else bound (s - suc x))
-    by b d = size b ∙ sym (size d)
+named_size : (k l s : ℕ) (o : Option ℕ) → message_size (name_meant k s o) ≡ message_size (name_meant l s o)
+named_size k l s o = name_size k s o ∙ sym (name_size l s o)
 
 mutual
   any_base : (k l : ℕ) (xs : Names) (m : t.Msg) → message_size (message_in k xs m) ≡ message_size (message_in l xs m)
@@ -107,3 +110,37 @@ late_step c i n s h = ap (λ b. unless (if b then Some (ScheduleTooLong s (stopp
 
 pub stopped_small : (n : ℕ) → stopped n ≤ 1000 → stopped n ≡ n
 stopped_small n h = omega arith
+
+-- what comes of an outermost message that is a name
+pub name_part : (xs : Names) (w : SWord) (c : ℕ) → run (one (uses_name xs w)) c ≡ Ok c → run (part xs (t.name w.span w)) c ≡ run (one (adds 1 w.span)) c
+unfolding part
+name_part xs w c h =
+    let n = msg_nodes xs (t.name w.span w) in
+    let e : n ≡ 1 = name_size 0 (length xs) (number_of xs w.word) in
+    ap (λ (r : Ran). after (after r (run (one (ends_message n w.span)))) (run (one (adds n w.span)))) h
+    ∙ ap (λ (r : Ran). after r (run (one (adds n w.span)))) (small_message c n w.span (omega (arith, e)))
+    ∙ ap (λ k. run (one (adds k w.span)) c) e
+
+pub name_part_fails : (xs : Names) (w : SWord) (c : ℕ) (e : ScopeFault) → FailsWith e (run (one (uses_name xs w)) c) → FailsWith e (run (part xs (t.name w.span w)) c)
+unfolding part
+name_part_fails xs w c e (inl h) = inl h
+name_part_fails xs w c e (inr h) =
+    let n = msg_nodes xs (t.name w.span w) in
+    inr (ap (λ (r : Ran). after (after r (run (one (ends_message n w.span)))) (run (one (adds n w.span)))) h)
+
+-- and of an annotation that is `Un`
+pub untrusted_whole : (ts : Abbreviations) (xs : Names) (s : Span) (c : ℕ) → run (whole_type ts xs (t.un s)) c ≡ run (one (adds 1 s)) c
+unfolding whole_type
+untrusted_whole ts xs s c = ap (λ (r : Ran). after r (run (one (adds 1 s)))) (small_type c 1 s (omega arith))
+
+-- a name that is in scope, and one that isn't
+pub name_known : (xs : Names) (w : SWord) (x : List ℕ) (c n : ℕ) → x ≡ w.word → Some n ≡ number_of xs x → run (part xs (t.name w.span w)) c ≡ run (one (adds 1 w.span)) c
+name_known xs w x c n e h =
+    let f : number_of xs w.word ≡ Some n = ap (number_of xs) (sym e) ∙ sym h in
+    name_part xs w c (rw (f, add-zero) refl)
+
+pub name_unknown : (xs : Names) (w : SWord) (x : List ℕ) (c : ℕ) (e : ScopeFault) → x ≡ w.word → None ≡ number_of xs x → (e ≡ OutOfMemory) ⊎ (e ≡ UnknownName w.span w.word) → FailsWith e (run (part xs (t.name w.span w)) c)
+name_unknown xs w x c e p h (inl g) = inl g
+name_unknown xs w x c e p h (inr g) =
+    let f : number_of xs w.word ≡ None = ap (number_of xs) (sym p) ∙ sym h in
+    name_part_fails xs w c e (inr (rw (f, g) refl))

@@ -100,6 +100,25 @@ entered m n es e number w is k u i s h p few =
     let all = subst (λ (w : Word). TableChanges m n w (Some number) × (n.entries ≡ insert_entry bytes_eq m.entries w (Some number)) × (e.slot ≡ insert_index bytes_eq m w) × (e.before ≡ number_of (spellings (reverse es)) w)) is (u, i, s, h) in
     entered_word m n es e number k all.0 all.1 all.2 all.3 p few
 
+key_at : (es : Entries) (i : ℕ) (e : Word × Option ℕ) → slice_get es i ≡ Some e → slice_get (words es) i ≡ Some e.0
+key_at [] i e h = absurd (none-some e h)
+key_at (d ∷ es) zero e h = ap (λ (x : Word × Option ℕ). Some x.0) (some_is h)
+key_at (d ∷ es) (suc i) e h = key_at es i e h
+
+-- the same where the slot is known, with what stands there
+pub entered_at : {S : Type 0} (m : Table S) (es : List Held) (e : Held) (number : ℕ) → KeepsTable m es → IsUnique bytes_eq m → slice_get m.entries e.slot ≡ Some (e.word.now, e.before) → get bytes_eq m e.word.now ≡ Some e.before → number ≡ length es → length es + 1 < 2 ^ 32 → KeepsTable (with_value_at m e.slot (Some number)) (es ++ e ∷ [])
+entered_at m es e number k unique at found p few = record {
+  finds = λ w.
+      changed m (with_value_at m e.slot (Some number)) e.word.now (Some number) (updates-with_value_at m e.slot (Some number) nat_list_eq_equiv unique e.word.now e.before at) w
+      ∙ ap (λ a. cond (bytes_eq e.word.now w) (Some number) a) (k.finds w)
+      ∙ ap (λ a. cond (bytes_eq e.word.now w) (Some a) (number_of (spellings (reverse es)) w)) (p ∙ sym (many_names es))
+      ∙ ap (λ r. number_of (spellings r) w) (sym (reverse_push es e));
+  hide = subst Hide (sym (reverse_push es e)) (sym (ap option_flatten found) ∙ k.finds e.word.now, k.hide);
+  have_slots = subst (HaveSlots (slots (with_value_at m e.slot (Some number)))) (sym (reverse_push es e))
+      (subst (λ (l : Names). HaveSlots l (e ∷ reverse es)) (sym (keys-with_value_at m e.slot (Some number))) (key_at m.entries e.slot (e.word.now, e.before) at, k.have_slots));
+  few = omega (arith, length-append es (e ∷ []));
+}
+
 hidden_is : {S : Type 0} (m : Table S) (es : List Held) (e : Held) → KeepsTable m (es ++ e ∷ []) → e.before ≡ number_of (spellings (reverse es)) e.word.now
 hidden_is m es e k = (subst Hide (reverse_push es e) k.hide).0
 
@@ -177,14 +196,14 @@ cut_more (x ∷ xs) n h =
     let e : suc (length xs - n) ≡ length (x ∷ xs) - n = omega arith in
     ap (λ m. drop m (x ∷ xs)) e
 
-pub begin_bound : (cs ds : List Names) (old new : List Held) (w : Word) (chain outer : ℕ) (r : Result (Unit {0}) AllocError) → Begin cs (reverse old) → outer ≡ top (reverse old) → ds ≡ cs ++ (w ∷ chain_at cs outer) ∷ [] → chain ≡ length cs → OnOk r (IsPushed old new w chain) → OnErr r (new ≡ old) → Begin ds (reverse new)
-begin_bound cs ds old new w chain outer r b eo ed ec ok err =
+pub begin_bound : {X : Type 0} (cs ds : List Names) (old new : List Held) (w : Word) (chain outer : ℕ) (r : Result X AllocError) → Begin cs (reverse old) → outer ≡ top (reverse old) → ds ≡ cs ++ (w ∷ chain_at cs outer) ∷ [] → chain ≡ length cs → OnOk r (IsPushed old new w chain) → OnErr r (new ≡ old) → Begin ds (reverse new)
+begin_bound {X} cs ds old new w chain outer r b eo ed ec ok err =
     let xs = spellings (reverse old) in
     let x : chain_at cs outer ≡ xs = ap (chain_at cs) eo ∙ ap found_names (top_is cs (reverse old) b) in
     let d : ds ≡ cs ++ (w ∷ xs) ∷ [] = ed ∙ ap (λ l. cs ++ (w ∷ l) ∷ []) x in
     subst (λ l. Begin l (reverse new)) (sym d) (by r ok err)
   where
-    by : (r : Result (Unit {0}) AllocError) → OnOk r (IsPushed old new w chain) → OnErr r (new ≡ old) → Begin (cs ++ (w ∷ spellings (reverse old)) ∷ []) (reverse new)
+    by : (r : Result X AllocError) → OnOk r (IsPushed old new w chain) → OnErr r (new ≡ old) → Begin (cs ++ (w ∷ spellings (reverse old)) ∷ []) (reverse new)
     by (Ok u) ok err = begin_pushed cs old new w chain b ok ec
     by (Err e) ok err = subst (λ l. Begin (cs ++ (w ∷ spellings (reverse old)) ∷ []) (reverse l)) (sym err) (begin_more cs ((w ∷ spellings (reverse old)) ∷ []) (reverse old) b)
 

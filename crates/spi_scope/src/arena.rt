@@ -1,6 +1,7 @@
 //! The nodes of a process in preorder.
 
 ghost use Rattle.std.specs.Prelude.{◌≡◌, ◌+◌, ◌<◌, [], ◌∷◌, ◌++◌, map, length, IfOk, IfErr, OnOk, slice_set};
+ghost use Rattle.spi_term.specs.declared.term.Form.TheVariants.{Par};
 ghost use Rattle.spi_term.specs.View.{shape_of_form, shape_of};
 ghost use Rattle.spi_scope.specs.declared.fault.ScopeFault.TheVariants.{NoMemory as OutOfMemory};
 
@@ -72,4 +73,33 @@ pub fn close(arena: &mut Arena, at: usize, base: u32, form: Form)
     ensures len { length arena.new.nodes.items ≡ length arena.old.nodes.items }
 {
     put(&mut arena.nodes[at], Node { scope: base, form });
+}
+
+/// The node of a composition is written when the place of its second process is known.
+pub fn close_pair(arena: &mut Arena, at: usize, base: u32, first: u32, rest: u32)
+    requires { at < length arena.old.nodes.items }
+    ensures nodes { map shape_of arena.new.nodes.items
+        ≡ slice_set (map shape_of arena.old.nodes.items) at (shape_of_form base (Par first rest)) }
+    ensures places { arena.new.places ≡ arena.old.places }
+    ensures len { length arena.new.nodes.items ≡ length arena.old.nodes.items }
+{
+    write_pair(&mut arena.nodes[at], base, first, rest);
+}
+
+/// The node is a composition from now on.
+#[inline(always)]
+fn write_pair(node: &mut Node, base: u32, first: u32, rest: u32)
+    ensures { shape_of node.new ≡ shape_of_form base (Par first rest) }
+{
+    node.scope = base;
+    match &mut node.form {
+        Form::Par {
+            first: left,
+            rest: right,
+        } => {
+            *left = first;
+            *right = rest;
+        }
+        form => put(form, Form::Par { first, rest }),
+    }
 }

@@ -25,15 +25,13 @@ fn declare_name<'t>(alloc: Global, scope: &mut Scope<'t>, word: &'t SWord) -> Re
     ensures types { OnOk result (scope.new.types ≡ scope.old.types) }
     ensures few { OnOk result (scope.new.count ≤ 100000) }
 {
-    let text = word.word.as_str();
-    if let Some(_) = scope.held.number(text) {
+    if scope.held.declare(&word.word)? {
         return Err(ScopeFault::NameTwice {
             span: word.span,
-            word: Text::of(alloc, text)?,
+            word: word.word.copy(alloc)?,
         });
     }
     add(scope, 1, word.span)?;
-    scope.held.bind(text)?;
     Ok(())
 }
 
@@ -111,7 +109,7 @@ fn declare<'t>(alloc: Global, scope: &mut Scope<'t>, decl: &'t Decl) -> Result<(
 {
     match decl {
         Decl::Free { first, more, .. } => {
-            scope.held.reserve(more.len().saturating_add(1))?;
+            scope.held.reserve(alloc, more.len().saturating_add(1))?;
             declare_name(alloc, scope, first)?;
             declare_more(alloc, scope, more)
         }

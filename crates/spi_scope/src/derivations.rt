@@ -1,8 +1,8 @@
 //! Derivations.
 
-ghost use Rattle.std.specs.Prelude.{◌≡◌, ◌+◌, ◌≤◌, [], ◌∷◌, ◌++◌, map, IfOk, OnOk, Ok};
+ghost use Rattle.std.specs.Prelude.{◌≡◌, ◌+◌, ◌≤◌, [], ◌∷◌, ◌++◌, map, IfOk, OnOk, Some, Ok};
 ghost use Rattle.spi_tree.specs.Trees.{msgs_of_list, derivs_of_list};
-ghost use Rattle.spi_tree.specs.Views.{msg_of, atom_of, tree_effect, deriv_of};
+ghost use Rattle.spi_tree.specs.Views.{msg_of, msgs_of_more, atom_of, tree_effect, deriv_of};
 ghost use Rattle.spi_term.specs.Term.{message_size};
 ghost use Rattle.spi_term.specs.Spelling.{stopped};
 ghost use Rattle.spi_term.specs.View.{message, atom};
@@ -20,7 +20,7 @@ use crate::types::message_place;
 use spi_rules::{Rule, RuleUse};
 use spi_term::{Atom, Effect, Msg};
 use spi_text::Span;
-use spi_tree::{SAtom, SDeriv, SMsg};
+use spi_tree::{More, SAtom, SDeriv, SMsg};
 use std::alloc::Global;
 
 /// The message in a box, with its nodes.
@@ -45,7 +45,7 @@ fn read_numbered(alloc: Global, spent: u64, m: &SMsg) -> Result<(Msg, u64), NoMe
         SMsg::Tuple { parts, .. } => {
             let (first, total) = read_numbered(alloc, spent, &parts.first)?;
             let (second, total) = read_numbered(alloc, total.saturating_add(1), &parts.second)?;
-            let (more, total) = read_all_numbered(alloc, total, &parts.more)?;
+            let (more, total) = read_more_numbered(alloc, total, &parts.more)?;
             let whole = nest(alloc, total, first, second, more)?;
             Ok((whole, total))
         }
@@ -75,6 +75,26 @@ fn read_numbered(alloc: Global, spent: u64, m: &SMsg) -> Result<(Msg, u64), NoMe
 }
 
 /// The components of a tuple but the first two, with their nodes and those of the pairs counted on.
+#[cycle(numbered)]
+fn read_more_numbered(alloc: Global, spent: u64, more: &More) -> Result<(Vec<Msg>, u64), NoMemory>
+    ensures counted { IfOk result
+        (λ x. x.1 ≡ stopped (spent + row_nodes (numbered_messages (msgs_of_more more.now)))) }
+    ensures read { IfOk result
+        (λ x. x.1 ≤ 1000 → map message x.0.items ≡ numbered_messages (msgs_of_more more.now)) }
+{
+    match more {
+        More::None => Ok((Vec::new(alloc), spent)),
+        More::One(part) => {
+            let mut read = Vec::new(alloc);
+            let (part, total) = read_numbered(alloc, spent.saturating_add(1), part)?;
+            read.push(part)?;
+            Ok((read, total))
+        }
+        More::Several(parts) => read_all_numbered(alloc, spent, parts),
+    }
+}
+
+/// The same of those that lie in a vector.
 #[cycle(numbered)]
 fn read_all_numbered(alloc: Global, spent: u64, ms: &[SMsg]) -> Result<(Vec<Msg>, u64), NoMemory>
     ensures counted { IfOk result
@@ -140,11 +160,19 @@ fn read_written(
 {
     match effect {
         None => Ok(None),
-        Some(es) => {
-            let atoms = read_atoms(alloc, count, es)?;
-            Ok(Some(Effect { atoms }))
-        }
+        Some(es) => read_effect(alloc, count, es),
     }
+}
+
+/// An effect that is written.
+#[inline(never)]
+fn read_effect(alloc: Global, count: u64, es: &[SAtom]) -> Result<Option<Effect>, ScopeFault>
+    ensures { GivesMeant effect_written result
+        (run (written_points (Some (map atom_of es.now))) count) count
+        (numbered_effect (Some (map atom_of es.now))) }
+{
+    let atoms = read_atoms(alloc, count, es)?;
+    Ok(Some(Effect { atoms }))
 }
 
 /// The rule with this name. Each word of a rule names one in a formed tree.

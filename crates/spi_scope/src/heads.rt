@@ -1,7 +1,9 @@
 //! What stands before the processes of a form: messages and annotations, tested and counted.
 
 ghost use Rattle.std.specs.Prelude.{◌≡◌, ◌≤◌, ◌∷◌, IfOk, OnOk};
+ghost use Rattle.spi_tree.specs.Trees.{name, un as untrusted};
 ghost use Rattle.spi_tree.specs.Views.{msg_of, ty_of};
+ghost use Rattle.spi_term.specs.Term.{un};
 ghost use Rattle.spi_term.specs.Spelling.{ty_nodes};
 ghost use Rattle.spi_term.specs.View.{message, ty};
 ghost use Rattle.spi_scope.specs.Meaning.{message_in, type_in};
@@ -12,6 +14,7 @@ ghost use Rattle.spi_scope.specs.State.{abbreviations};
 ghost use Rattle.spi_scope.specs.Forms.{KeepsScope};
 
 use crate::fault::ScopeFault;
+use crate::messages::{name_at, unknown};
 use crate::scope::Scope;
 use crate::types::{message_place, read_type, read_whole};
 use spi_term::{Msg, Ty};
@@ -35,9 +38,47 @@ pub fn add(scope: &mut Scope, nodes: u64, span: Span) -> Result<(), ScopeFault>
 }
 
 /// An outermost message.
-#[tactic(auto, unfolding(crate::specs::Points::part))]
 #[inline(always)]
 pub fn read_part(alloc: Global, scope: &mut Scope, base: u32, m: &SMsg) -> Result<Msg, ScopeFault>
+    requires few { scope.old.count ≤ 100000 }
+    ensures gives { GivesMeant message result (run (part scope.old.held.names (msg_of m.now)) scope.old.count)
+        scope.new.count (message_in base scope.old.held.names (msg_of m.now)) }
+    ensures kept { OnOk result (KeepsScope scope.old scope.new) }
+{
+    match m {
+        SMsg::Name { name } => read_name_part(alloc, scope, base, name),
+        _ => read_large_part(alloc, scope, base, m),
+    }
+}
+
+/// An outermost message that is a name.
+#[inline(always)]
+fn read_name_part(
+    alloc: Global,
+    scope: &mut Scope,
+    base: u32,
+    word: &SWord,
+) -> Result<Msg, ScopeFault>
+    requires few { scope.old.count ≤ 100000 }
+    ensures gives { GivesMeant message result
+        (run (part scope.old.held.names (name word.now.span word.now)) scope.old.count) scope.new.count
+        (message_in base scope.old.held.names (name word.now.span word.now)) }
+    ensures kept { OnOk result (KeepsScope scope.old scope.new) }
+{
+    match scope.held.number(word.word.as_str()) {
+        None => Err(unknown(alloc, word)),
+        Some(number) => {
+            let len = scope.held.len();
+            add(scope, 1, word.span)?;
+            Ok(name_at(base, len, number))
+        }
+    }
+}
+
+/// An outermost message that is most often no name.
+#[tactic(auto, unfolding(crate::specs::Points::part))]
+#[inline(never)]
+fn read_large_part(alloc: Global, scope: &mut Scope, base: u32, m: &SMsg) -> Result<Msg, ScopeFault>
     requires few { scope.old.count ≤ 100000 }
     ensures gives { GivesMeant message result (run (part scope.old.held.names (msg_of m.now)) scope.old.count)
         scope.new.count (message_in base scope.old.held.names (msg_of m.now)) }
@@ -90,9 +131,45 @@ fn read_bounded<'t>(
 }
 
 /// An annotation, or the type of an abbreviation, with its nodes.
-#[tactic(auto, unfolding(crate::specs::Points::whole_type))]
 #[inline(always)]
 pub fn read_annotation<'t>(
+    alloc: Global,
+    scope: &mut Scope<'t>,
+    base: u32,
+    t: &'t STy,
+) -> Result<(Ty, u64), ScopeFault>
+    requires few { scope.old.count ≤ 100000 }
+    ensures gives { GivesMeant (λ x. ty x.0) result
+        (run (whole_type (abbreviations scope.old.types) scope.old.held.names (ty_of t.entry.now))
+        scope.old.count) scope.new.count
+        (type_in base (abbreviations scope.old.types) scope.old.held.names (ty_of t.entry.now)) }
+    ensures nodes { IfOk result (λ x. x.1 ≡ ty_nodes (ty x.0)) }
+    ensures kept { OnOk result (KeepsScope scope.old scope.new) }
+{
+    match t {
+        STy::Un { span } => read_untrusted(scope, *span),
+        _ => read_large_annotation(alloc, scope, base, t),
+    }
+}
+
+/// The annotation `Un`.
+#[inline(always)]
+fn read_untrusted(scope: &mut Scope, span: Span) -> Result<(Ty, u64), ScopeFault>
+    requires few { scope.old.count ≤ 100000 }
+    ensures gives { GivesMeant (λ x. ty x.0) result
+        (run (whole_type (abbreviations scope.old.types) scope.old.held.names (untrusted span))
+        scope.old.count) scope.new.count un }
+    ensures nodes { IfOk result (λ x. x.1 ≡ ty_nodes (ty x.0)) }
+    ensures kept { OnOk result (KeepsScope scope.old scope.new) }
+{
+    add(scope, 1, span)?;
+    Ok((Ty::Un, 1))
+}
+
+/// An annotation that is most often not `Un`, or the type of an abbreviation, with its nodes.
+#[tactic(auto, unfolding(crate::specs::Points::whole_type))]
+#[inline(never)]
+fn read_large_annotation<'t>(
     alloc: Global,
     scope: &mut Scope<'t>,
     base: u32,
@@ -225,7 +302,7 @@ pub fn read_under<'t>(
         (ty_of a.entry.now)) }
     ensures kept { OnOk result (KeepsScope scope.old scope.new) }
 {
-    scope.held.bind(name.word.as_str())?;
+    scope.held.bind(&name.word)?;
     let (ty, _) = read_annotation(alloc, scope, base, a)?;
     scope.held.unbind();
     Ok(ty)

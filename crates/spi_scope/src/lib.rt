@@ -7,6 +7,7 @@ mod derivations;
 mod fault;
 mod file;
 mod forms;
+mod guesses;
 mod heads;
 mod laws;
 mod marks;

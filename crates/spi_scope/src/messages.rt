@@ -1,11 +1,11 @@
 //! Messages.
 
 ghost use Rattle.std.specs.Prelude.{◌≡◌, ◌⊎◌, ◌+◌, ◌<◌, ◌≤◌, ◌∷◌, map, length, IfOk, IfErr, Some, Ok, Err};
-ghost use Rattle.spi_tree.specs.Views.{msg_of};
+ghost use Rattle.spi_tree.specs.Views.{msg_of, msgs_of_more};
 ghost use Rattle.spi_tree.specs.Trees.{inl, inr, hash, no_msgs, more_msgs, msgs_of_list, nowhere};
 ghost use Rattle.spi_term.specs.Term.{message_size, unit, pair};
 ghost use Rattle.spi_term.specs.View.{message};
-ghost use Rattle.spi_scope.specs.declared.fault.ScopeFault.TheVariants.{NoMemory as OutOfMemory};
+ghost use Rattle.spi_scope.specs.declared.fault.ScopeFault.TheVariants.{NoMemory as OutOfMemory, UnknownName};
 ghost use Rattle.spi_scope.specs.Scope.{number_of};
 ghost use Rattle.spi_scope.specs.Meaning.{name_meant, nested, message_in, messages_in};
 ghost use Rattle.spi_scope.specs.Points.{one, uses_name, message_points, messages_points};
@@ -16,12 +16,12 @@ ghost use Rattle.spi_scope.specs.Forms.{message_form, tuple_form, enc_form};
 use crate::fault::ScopeFault;
 use crate::scope::Scope;
 use spi_term::Msg;
-use spi_text::Text;
-use spi_tree::{SMsg, SWord};
+use spi_tree::{More, SMsg, SWord};
 use std::alloc::{AllocError, Global};
 
 /// The name with this number, of so many in scope.
-fn name_at(base: u32, scope: u32, number: u32) -> Msg
+#[inline(always)]
+pub fn name_at(base: u32, scope: u32, number: u32) -> Msg
     requires { number < scope }
     ensures { message result ≡ name_meant base scope (Some number) }
 {
@@ -33,6 +33,7 @@ fn name_at(base: u32, scope: u32, number: u32) -> Msg
 }
 
 /// The name with this spelling. It is one node.
+#[inline(always)]
 fn read_name(
     alloc: Global,
     scope: &Scope,
@@ -44,16 +45,24 @@ fn read_name(
         (run (one (uses_name scope.now.held.names word.now)) scope.now.count) scope.now.count spent
         (name_meant base (length scope.now.held.names) (number_of scope.now.held.names word.now.word)) }
 {
-    let text = word.word.as_str();
-    match scope.held.number(text) {
+    match scope.held.number(word.word.as_str()) {
         Some(number) => Ok((
             name_at(base, scope.held.len(), number),
             spent.saturating_add(1),
         )),
-        None => Err(ScopeFault::UnknownName {
-            span: word.span,
-            word: Text::of(alloc, text)?,
-        }),
+        None => Err(unknown(alloc, word)),
+    }
+}
+
+/// What is told of a name that isn't in scope.
+#[inline(never)]
+pub fn unknown(alloc: Global, word: &SWord) -> ScopeFault
+    ensures { (result ≡ OutOfMemory) ⊎ (result ≡ UnknownName word.now.span word.now.word) }
+{
+    let span = word.span;
+    match word.word.copy(alloc) {
+        Ok(word) => ScopeFault::UnknownName { span, word },
+        Err(_) => ScopeFault::NoMemory,
     }
 }
 
@@ -109,7 +118,27 @@ pub fn boxed<T: Drop>(
 /// The message that this one stands for, with its nodes counted on. Names below `base` are written by their numbers.
 /// Where there are more than 1,000 nodes the message means nothing.
 #[cycle(messages)]
+#[inline(always)]
 pub fn read_message(
+    alloc: Global,
+    scope: &Scope,
+    base: u32,
+    spent: u64,
+    m: &SMsg,
+) -> Result<(Msg, u64), ScopeFault>
+    ensures { CountsOn message message_size result
+        (run (message_points scope.now.held.names (msg_of m.now)) scope.now.count) scope.now.count spent
+        (message_in base scope.now.held.names (msg_of m.now)) }
+{
+    match m {
+        SMsg::Name { name } => read_name(alloc, scope, base, spent, name),
+        _ => read_term(alloc, scope, base, spent, m),
+    }
+}
+
+/// The same of a message that is most often no name.
+#[cycle(messages)]
+fn read_term(
     alloc: Global,
     scope: &Scope,
     base: u32,
@@ -264,19 +293,19 @@ fn read_more(
     scope: &Scope,
     base: u32,
     spent: u64,
-    more: &[SMsg],
+    more: &More,
     next: Msg,
 ) -> Result<(Msg, u64), ScopeFault>
     ensures { CountsOn message
-        (λ _. row_nodes (messages_in base scope.now.held.names (msgs_of_list (map msg_of more.now)))) result
-        (run (messages_points scope.now.held.names (msgs_of_list (map msg_of more.now))) scope.now.count)
+        (λ _. row_nodes (messages_in base scope.now.held.names (msgs_of_more more.now))) result
+        (run (messages_points scope.now.held.names (msgs_of_more more.now)) scope.now.count)
         scope.now.count spent
-        (nested (message next) (messages_in base scope.now.held.names (msgs_of_list (map msg_of more.now)))) }
+        (nested (message next) (messages_in base scope.now.held.names (msgs_of_more more.now))) }
 {
     match more {
-        [] => Ok((next, spent)),
-        [last] => read_last(alloc, scope, base, spent, last, next),
-        _ => read_rest(alloc, scope, base, spent, more, next),
+        More::None => Ok((next, spent)),
+        More::One(last) => read_last(alloc, scope, base, spent, last, next),
+        More::Several(more) => read_rest(alloc, scope, base, spent, more, next),
     }
 }
 

@@ -6,7 +6,7 @@ ghost use Rattle.spi_tree.specs.Views.{msg_of, ty_of, proc_of};
 ghost use Rattle.spi_scope.specs.Leads.{LeadsTo};
 ghost use Rattle.spi_scope.specs.Forms.{process_run, AddsProcess, form_kind, messages_form, typed_form, opening_form, pair_form};
 
-use crate::arena::{Arena, close, here, push};
+use crate::arena::{Arena, close, close_pair, here, push};
 use crate::fault::ScopeFault;
 use crate::forms::{
     begin, cast, check, decrypt, end, end_many, fresh, receive, select, serve, split,
@@ -264,7 +264,7 @@ fn read_pair_form<'t>(
             span,
         } => {
             split(alloc, scope, arena, *span, whole, left, left_ty, right_ty)?;
-            scope.held.bind(left.word.as_str())?;
+            scope.held.bind(&left.word)?;
             read_under(alloc, scope, arena, right, then)?;
             scope.held.unbind();
             Ok(())
@@ -290,6 +290,7 @@ fn read_pair_form<'t>(
 
 /// The nodes of a process that sees one more name.
 #[cycle(processes)]
+#[inline(always)]
 fn read_under<'t>(
     alloc: Global,
     scope: &mut Scope<'t>,
@@ -305,7 +306,7 @@ fn read_under<'t>(
         (AddsProcess scope.old scope.new arena.old arena.new (name.entry.now.word ∷ scope.old.held.names)
         (proc_of p.entry.now)) }
 {
-    scope.held.bind(name.word.as_str())?;
+    scope.held.bind(&name.word)?;
     read_process(alloc, scope, arena, p)?;
     scope.held.unbind();
     Ok(())
@@ -409,19 +410,20 @@ fn compose<'t>(
 {
     let base = scope.held.len();
     let at = here(arena)?;
-    push(scope, arena, base, Form::Stop, span)?;
-    read_process(alloc, scope, arena, first)?;
-    add(scope, 1, span)?;
-    let next = here(arena)?;
     let body = at + 1;
-    close(
+    push(
+        scope,
         arena,
-        at as usize,
         base,
         Form::Par {
             first: body,
-            rest: next,
+            rest: 0,
         },
-    );
+        span,
+    )?;
+    read_process(alloc, scope, arena, first)?;
+    add(scope, 1, span)?;
+    let next = here(arena)?;
+    close_pair(arena, at as usize, base, body, next);
     read_process(alloc, scope, arena, rest)
 }

@@ -66,6 +66,14 @@ impl<'t> Spelling<'t> {
             word,
         }
     }
+
+    /// The number that the first and the last bytes give.
+    #[inline(always)]
+    pub fn number(&self) -> u64
+        ensures { result ≡ front_of self.now }
+    {
+        self.front
+    }
 }
 
 impl PartialEq for Spelling<'_> {

@@ -11,7 +11,7 @@ use std::marker::Model;
 /// A spelling, and the chain outside it. Link i begins chain i + 1.
 #[derive(Drop)]
 pub struct Link<'t> {
-    pub word: &'t str,
+    pub word: &'t Text,
     pub outer: u32,
 }
 
@@ -72,7 +72,7 @@ impl<'t> Trail<'t> {
 
     /// One more chain: the spelling before an earlier chain. There is no room for 2 ^ 32 chains, and so many don't come: each is
     /// that of a binder, which has a token of its own.
-    pub fn extend(&mut self, word: &'t str, outer: u32) -> Result<u32, NoMemory>
+    pub fn extend(&mut self, word: &'t Text, outer: u32) -> Result<u32, NoMemory>
         requires { outer < length self.old.chains }
         ensures number { IfOk result (λ n. n ≡ length self.old.chains) }
         ensures chains { OnOk result
@@ -88,6 +88,7 @@ impl<'t> Trail<'t> {
     }
 
     /// The chain is noted.
+    #[inline(always)]
     pub fn note(&mut self, chain: u32) -> Result<(), NoMemory>
         requires { chain < length self.old.chains }
         ensures chains { self.new.chains ≡ self.old.chains }
@@ -102,13 +103,13 @@ impl<'t> Trail<'t> {
     pub fn scopes(&self, alloc: Global) -> Result<Scopes, NoMemory>
         ensures { IfOk result (λ scopes. scopes ≡ self.now.noted) }
     {
-        let mut links = Vec::new(alloc);
+        let mut links = Vec::with_capacity(alloc, self.links.len())?;
         for link in &self.links {
-            let word = Text::of(alloc, link.word)?;
+            let word = link.word.copy(alloc)?;
             let outer = link.outer;
             links.push(Spelled { word, outer })?;
         }
-        let mut noted = Vec::new(alloc);
+        let mut noted = Vec::with_capacity(alloc, self.noted.len())?;
         for chain in &self.noted {
             noted.push(*chain)?;
         }
@@ -168,7 +169,7 @@ fn spellings(alloc: Global, links: &[Spelled], chain: u32) -> Result<Vec<Text>, 
     let mut at = chain;
     while at > 0 {
         let link = &links[at as usize - 1];
-        found.push(Text::of(alloc, link.word.as_str())?)?;
+        found.push(link.word.copy(alloc)?)?;
         at = link.outer;
     }
     found.reverse();

@@ -39,6 +39,7 @@ pub fn message_place(m: &SMsg) -> Span
 }
 
 /// An outermost message, or that of an atom, with its nodes: 200 at most.
+#[inline(always)]
 pub fn read_whole(
     alloc: Global,
     scope: &Scope,
@@ -233,7 +234,7 @@ fn read_tuple<'t>(
                 spent.saturating_add(1),
                 &parts.first,
             )?;
-            scope.held.bind(parts.name.word.as_str())?;
+            scope.held.bind(&parts.name.word)?;
             let (fields, total) = read_fields(alloc, scope, base, total, &parts.more)?;
             let (tail, total) = read_last(alloc, scope, base, total, &parts.last)?;
             scope.held.cut(len);
@@ -320,7 +321,7 @@ fn read_fields<'t>(
         let (ty, so_far) = read_type(alloc, scope, base, total.saturating_add(1), &f.ty)?;
         total = so_far;
         read.push(ty)?;
-        scope.held.bind(f.name.word.as_str())?;
+        scope.held.bind(&f.name.word)?;
     }
     Ok((read, total))
 }

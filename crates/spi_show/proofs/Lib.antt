@@ -1,4 +1,5 @@
 pub mod Lines
+pub mod Standings
 pub mod Texts
 pub mod Indexed
 pub mod Passing

@@ -5,6 +5,7 @@ pub mod Terms
 pub mod Processes
 pub mod Derivations
 pub mod Spells
+pub mod Standing
 pub mod Pieces
 pub mod Shifts
 pub mod Files

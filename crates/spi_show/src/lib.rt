@@ -1,6 +1,7 @@
 //! Texts of the calculus.
 #![tactic(auto)]
 
+mod below;
 mod derivations;
 mod files;
 mod nodes;
@@ -12,6 +13,7 @@ mod spell;
 mod steps;
 mod terms;
 
+pub use below::is_before;
 pub use derivations::show_derivation;
 pub use files::show_file;
 pub use report::{put_reported, show_atom, show_message};

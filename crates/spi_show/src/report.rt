@@ -1,20 +1,32 @@
 // The report form of messages and atoms.
-ghost use Rattle.std.specs.Prelude.{◌≡◌, ◌++◌, IfOk, OnOk, slice_get};
+ghost use Rattle.std.specs.Prelude.{◌≡◌, ◌++◌, IfOk, OnOk, codes, slice_get};
+ghost use Rattle.std.specs.Fmt.{decimal};
 ghost use Rattle.spi_term.specs.View.{message, atom};
 ghost use Rattle.spi_show.specs.Report.{reported_name, message_text, reported_atom};
 
 use crate::NoMemory;
+use itoa::Buffer;
 use spi_term::{Atom, Msg};
 use spi_text::Text;
 use std::alloc::Global;
 
+// Appends `#` and a number.
+fn put_numbered(out: &mut Vec<u8>, x: u32) -> Result<(), NoMemory>
+    ensures { OnOk result (out.new.items ≡ out.old.items ++ codes "#" ++ decimal x) }
+{
+    let mut buffer = Buffer::new();
+    out.push(b'#')?;
+    out.extend_from_slice(buffer.format(x).as_bytes())
+}
+
 // Appends a name.
+#[inline(never)]
 fn put_name(alloc: Global, out: &mut Vec<u8>, names: &[Text], x: u32) -> Result<(), NoMemory>
     ensures { OnOk result (out.new.items ≡ out.old.items ++ reported_name (slice_get names.now x) x) }
 {
     match names.get(x as usize) {
         Some(spelling) => out.extend_from_slice(spelling.as_str().as_bytes()),
-        None => out.extend_from_slice(format!(in alloc; "#{x}")?.as_bytes()),
+        None => put_numbered(out, x),
     }
 }
 
@@ -34,6 +46,18 @@ pub fn put_reported(
     put_message(alloc, out, names, m)
 }
 
+// Appends a part of a message: a name without going into it.
+#[cycle(reported)]
+#[inline(always)]
+fn put_part(alloc: Global, out: &mut Vec<u8>, names: &[Text], m: &Msg) -> Result<(), NoMemory>
+    ensures { OnOk result (out.new.items ≡ out.old.items ++ message_text names.now (message m.now)) }
+{
+    match m {
+        Msg::Name(x) => put_name(alloc, out, names, *x),
+        _ => put_message(alloc, out, names, m),
+    }
+}
+
 // Appends a message.
 #[cycle(reported)]
 fn put_message(alloc: Global, out: &mut Vec<u8>, names: &[Text], m: &Msg) -> Result<(), NoMemory>
@@ -44,11 +68,13 @@ fn put_message(alloc: Global, out: &mut Vec<u8>, names: &[Text], m: &Msg) -> Res
         Msg::Name(x) => put_name(alloc, out, names, *x),
         Msg::Unit => out.extend_from_slice(b"()"),
         Msg::Pair(two) => {
-            out.extend_from_slice(b"(")?;
-            put_message(alloc, out, names, &two.first)?;
-            out.extend_from_slice(b", ")?;
-            put_message(alloc, out, names, &two.second)?;
-            out.extend_from_slice(b")")
+            out.push(b'(')?;
+            put_part(alloc, out, names, &two.first)?;
+            out.push(b',')?;
+            out.push(b' ')?;
+            put_part(alloc, out, names, &two.second)?;
+            out.push(b')')?;
+            Ok(())
         }
         Msg::Inl(part) => put_reported(alloc, out, names, b"inl ", part),
         Msg::Inr(part) => put_reported(alloc, out, names, b"inr ", part),

@@ -1,9 +1,11 @@
 // How names are spelled in canonical texts.
 
-ghost use Rattle.std.specs.Prelude.{◌≡◌, ◌+◌, ◌<◌, ◌^◌, ◌++◌, OnOk};
+ghost use Rattle.std.specs.Prelude.{◌≡◌, ◌+◌, ◌<◌, ◌^◌, ◌∷◌, ◌++◌, OnOk};
+ghost use Rattle.std.specs.Fmt.{decimal};
 ghost use Rattle.spi_show.specs.Spells.{spelling};
 
 use crate::NoMemory;
+use itoa::Buffer;
 use spi_text::Text;
 use std::alloc::Global;
 use std::marker::Model;
@@ -59,19 +61,24 @@ pub struct Spell<'a> {
     pub names: NameSpelling<'a>,
 }
 
+// Appends a letter and a number.
+fn put_numbered(out: &mut Vec<u8>, letter: u8, number: u128) -> Result<(), NoMemory>
+    ensures { OnOk result (out.new.items ≡ out.old.items ++ letter ∷ decimal number) }
+{
+    let mut buffer = Buffer::new();
+    out.push(letter)?;
+    out.extend_from_slice(buffer.format(number).as_bytes())
+}
+
 /// Appends the name with this number.
 pub fn put_name(spell: &Spell, x: u32, out: &mut Vec<u8>) -> Result<(), NoMemory>
     ensures { OnOk result (out.new.items ≡ out.old.items ++ spelling spell.now x) }
 {
-    let alloc = spell.alloc;
     match &spell.names {
-        NameSpelling::Numbered => out.extend_from_slice(format!(in alloc; "#{x}")?.as_bytes()),
+        NameSpelling::Numbered => put_numbered(out, b'#', x as u128),
         NameSpelling::Named(free, shift) => match free.get(x as usize) {
             Some(word) => out.extend_from_slice(word.as_str().as_bytes()),
-            None => {
-                let number = shift.moved(x);
-                out.extend_from_slice(format!(in alloc; "v{number}")?.as_bytes())
-            }
+            None => put_numbered(out, b'v', shift.moved(x)),
         },
     }
 }

@@ -60,11 +60,6 @@ abbrev mutual
 abbrev pub more_list : t.Msg → List Kind
 more_list m = mark_list mark.Comma ++ msg_list m
 
-abbrev pub tuple_list : t.Msg → t.Msg → List t.Msg → List Kind
-tuple_list a b ms =
-    mark_list mark.ParenOpen ++ msg_list a ++ mark_list mark.Comma ++ msg_list b ++ joined more_list ms
-    ++ mark_list mark.ParenClose
-
 abbrev pub atom_list : t.Atom → List Kind
 atom_list (t.ends s m) = reserved_list word.End ++ msg_list m
 atom_list (t.checks s m) = reserved_list word.Check ++ msg_list m

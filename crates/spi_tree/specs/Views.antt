@@ -1,8 +1,10 @@
 -- What a declared tree is as a tree without places in memory.
-use Rattle.std.specs.Prelude.{List, map, Option, Some, None}
+use Rattle.std.specs.Prelude.{List, [], ◌∷◌, map, Option, Some, None}
 use Rattle.std.specs.Global.{Vec}
 use Rattle.spi_text.specs.declared.lines.Span.{Span}
-use Rattle.spi_tree.specs.declared.tree.SMsg.{SMsg, Row_of-SMsg, end_of-SMsg, more_of-SMsg}
+use Rattle.spi_tree.specs.declared.tree.More.{More, Row_of-SMsg, end_of-SMsg, more_of-SMsg, items-the_row-SMsg}
+use Rattle.spi_tree.specs.declared.tree.More.TheVariants as smore
+use Rattle.spi_tree.specs.declared.tree.SMsg.{SMsg}
 use Rattle.spi_tree.specs.declared.tree.SMsg.TheVariants as smsg
 use Rattle.spi_tree.specs.declared.tree.SAtom.{SAtom}
 use Rattle.spi_tree.specs.declared.tree.SAtom.TheVariants as satom
@@ -26,16 +28,27 @@ abbrev mutual
   pub msg_of : SMsg → t.Msg
   msg_of (smsg.Name w) = t.name w.span w
   msg_of (smsg.Unit s) = t.unit s
-  msg_of (smsg.Tuple' p a b shape more s) = t.tuple s (msg_of a) (msg_of b) (msgs_of_row more)
+  msg_of (smsg.Tuple' p a b more s) = t.tuple s (msg_of a) (msg_of b) (msgs_of_more more)
   msg_of (smsg.Inl' p a s) = t.inl s (msg_of a)
   msg_of (smsg.Inr' p a s) = t.inr s (msg_of a)
   msg_of (smsg.Enc' p a q b s) = t.enc s (msg_of a) (msg_of b)
   msg_of (smsg.Hash' p a s) = t.hash s (msg_of a)
   msg_of (smsg.Num n s) = t.num s n
 
+  pub msgs_of_more : More → t.Msgs
+  msgs_of_more smore.None = t.no_msgs
+  msgs_of_more (smore.One m) = t.more_msgs (msg_of m) t.no_msgs
+  msgs_of_more (smore.Several' shape row) = msgs_of_row row
+
   pub msgs_of_row : {n : _} → Row_of-SMsg n → t.Msgs
   msgs_of_row end_of-SMsg = t.no_msgs
   msgs_of_row (more_of-SMsg m rest) = t.more_msgs (msg_of m) (msgs_of_row rest)
+
+-- the components of a tuple behind the first two
+abbrev pub more_items : More → List SMsg
+more_items smore.None = []
+more_items (smore.One m) = m ∷ []
+more_items (smore.Several' shape row) = items-the_row-SMsg _ row
 
 abbrev pub atom_of : SAtom → t.Atom
 atom_of (satom.End m s) = t.ends s (msg_of m)

@@ -10,7 +10,8 @@ mod tree;
 use std::alloc::AllocError;
 pub use tokens::tokens_of;
 pub use tree::{
-    Decl, Last, MsgParts, SAtom, SDeriv, SField, SMsg, SProc, SStep, STy, SWord, Tree, TyParts,
+    Decl, Last, More, MsgParts, SAtom, SDeriv, SField, SMsg, SProc, SStep, STy, SWord, Tree,
+    TyParts,
 };
 
 /// Memory ran out.

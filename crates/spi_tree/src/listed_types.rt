@@ -1,11 +1,11 @@
 //! The tokens of messages and types.
 
 ghost use Rattle.std.specs.Prelude.{◌≡◌, ◌++◌, map, OnOk};
-ghost use Rattle.spi_tree.specs.Views.{msg_of, atom_of, ty_of, last_of, field_of};
-ghost use Rattle.spi_tree.specs.Listed.{joined, msg_list, more_list, atom_list, more_atom_list, effect_list, ty_list, field_list, last_list, named_list};
+ghost use Rattle.spi_tree.specs.Views.{msg_of, msgs_of_more, atom_of, ty_of, last_of, field_of};
+ghost use Rattle.spi_tree.specs.Listed.{joined, msg_list, msgs_list, more_list, atom_list, more_atom_list, effect_list, ty_list, field_list, last_list, named_list};
 
 use crate::list::{put_mark, put_numbered, put_parens, put_reserved, put_word};
-use crate::{Last, NoMemory, SAtom, SField, SMsg, STy, SWord};
+use crate::{Last, More, NoMemory, SAtom, SField, SMsg, STy, SWord};
 use spi_lex::{Kind, Mark, Reserved};
 use std::alloc::Global;
 
@@ -22,7 +22,7 @@ pub fn put_message(alloc: Global, out: &mut Vec<Kind>, message: &SMsg) -> Result
             put_message(alloc, out, &parts.first)?;
             put_mark(out, Mark::Comma)?;
             put_message(alloc, out, &parts.second)?;
-            put_messages(alloc, out, &parts.more)?;
+            put_more(alloc, out, &parts.more)?;
             put_mark(out, Mark::ParenClose)?;
             Ok(())
         }
@@ -47,6 +47,21 @@ pub fn put_message(alloc: Global, out: &mut Vec<Kind>, message: &SMsg) -> Result
             put_mark(out, Mark::ParenClose)
         }
         SMsg::Num { number, .. } => put_numbered(out, *number),
+    }
+}
+
+/// Puts the tokens of a tuple's components behind the first two.
+#[cycle(messages)]
+fn put_more(alloc: Global, out: &mut Vec<Kind>, more: &More) -> Result<(), NoMemory>
+    ensures { OnOk result (out.new.items ≡ out.old.items ++ msgs_list (msgs_of_more more.now)) }
+{
+    match more {
+        More::None => Ok(()),
+        More::One(part) => {
+            put_mark(out, Mark::Comma)?;
+            put_message(alloc, out, part)
+        }
+        More::Several(parts) => put_messages(alloc, out, parts),
     }
 }
 

@@ -56,7 +56,26 @@ pub enum SMsg {
 pub struct MsgParts {
     pub first: SMsg,
     pub second: SMsg,
-    pub more: Vec<SMsg>,
+    pub more: More,
+}
+
+/// The components of a tuple behind the first two. Where there is one, it lies in the value itself.
+#[cycle(messages)]
+pub enum More {
+    None,
+    One(SMsg),
+    Several(Vec<SMsg>),
+}
+
+impl Drop for More {
+    #[cycle(messages)]
+    fn drop(self) {
+        match self {
+            More::None => {}
+            More::One(_) => {}
+            More::Several(_) => {}
+        }
+    }
 }
 
 impl Drop for MsgParts {

@@ -2,11 +2,11 @@
 
 ghost use Rattle.std.specs.Prelude.{◌≡◌, map, Ok, IfOk};
 ghost use Rattle.spi_text.specs.declared.lines.Span.{Span};
-ghost use Rattle.spi_tree.specs.Views.{msg_of, atom_of, ty_of, tuple_of, last_of, field_of, decl_of};
+ghost use Rattle.spi_tree.specs.Views.{msg_of, msgs_of_more, atom_of, ty_of, tuple_of, last_of, field_of, decl_of};
 
 use crate::NoMemory;
 use spi_text::Text;
-use spi_tree::{Decl, Last, MsgParts, SAtom, SField, SMsg, STy, SWord, TyParts};
+use spi_tree::{Decl, Last, More, MsgParts, SAtom, SField, SMsg, STy, SWord, TyParts};
 use std::alloc::Global;
 
 // The value in a box, where there is one.
@@ -48,15 +48,26 @@ fn messages(alloc: Global, ms: &[SMsg]) -> Result<Vec<SMsg>, NoMemory>
 }
 
 #[cycle(messages)]
+fn message_more(alloc: Global, more: &More) -> Result<More, NoMemory>
+    ensures { IfOk result (λ r. msgs_of_more r ≡ msgs_of_more more.now) }
+{
+    match more {
+        More::None => Ok(More::None),
+        More::One(part) => Ok(More::One(message(alloc, part)?)),
+        More::Several(parts) => Ok(More::Several(messages(alloc, parts)?)),
+    }
+}
+
+#[cycle(messages)]
 fn message_parts(alloc: Global, parts: &MsgParts) -> Result<MsgParts, NoMemory>
     ensures first { IfOk result (λ r. msg_of r.first ≡ msg_of parts.now.first) }
     ensures second { IfOk result (λ r. msg_of r.second ≡ msg_of parts.now.second) }
-    ensures more { IfOk result (λ r. map msg_of r.more.items ≡ map msg_of parts.now.more.items) }
+    ensures more { IfOk result (λ r. msgs_of_more r.more ≡ msgs_of_more parts.now.more) }
 {
     Ok(MsgParts {
         first: message(alloc, &parts.first)?,
         second: message(alloc, &parts.second)?,
-        more: messages(alloc, &parts.more)?,
+        more: message_more(alloc, &parts.more)?,
     })
 }
 

@@ -2,12 +2,12 @@
 
 ghost use Rattle.std.specs.Prelude.{◌≡◌, ◌+◌, map};
 ghost use Rattle.spi_tree.specs.Trees.{msgs_of_list, fields_of_list};
-ghost use Rattle.spi_tree.specs.Views.{msg_of, atom_of, ty_of, field_of, last_of, proc_of};
+ghost use Rattle.spi_tree.specs.Views.{msg_of, msgs_of_more, atom_of, ty_of, field_of, last_of, proc_of};
 ghost use Rattle.spi_term.specs.Spelling.{stopped};
 ghost use Rattle.spi_workbench.specs.Sizes.{nodes_in_words, msg_size, msgs_size, atom_size, atoms_size, ty_size, fields_size, last_size, form_size, proc_size};
 
 use indexmap::IndexMap;
-use spi_tree::{Last, SAtom, SField, SMsg, SProc, STy, SWord};
+use spi_tree::{Last, More, SAtom, SField, SMsg, SProc, STy, SWord};
 
 /// How many nodes each abbreviation has.
 pub type Sizes<'t> = IndexMap<&'t str, u64>;
@@ -33,7 +33,7 @@ pub fn message_nodes(m: &SMsg) -> u64
     match m {
         SMsg::Name { .. } | SMsg::Unit { .. } | SMsg::Num { .. } => 1,
         SMsg::Tuple { parts, .. } => {
-            let rest = message_nodes(&parts.second).saturating_add(messages_nodes(&parts.more));
+            let rest = message_nodes(&parts.second).saturating_add(more_nodes(&parts.more));
             one_over(message_nodes(&parts.first), rest)
         }
         SMsg::Inl { part, .. } => one_more(message_nodes(part)),
@@ -43,7 +43,19 @@ pub fn message_nodes(m: &SMsg) -> u64
     }
 }
 
-/// Components of a tuple, with a pair for each.
+/// The components of a tuple behind the first two, with a pair for each.
+#[cycle(messages)]
+fn more_nodes(more: &More) -> u64
+    ensures { result ≡ stopped (msgs_size (msgs_of_more more.now)) }
+{
+    match more {
+        More::None => 0,
+        More::One(part) => one_over(0, message_nodes(part)),
+        More::Several(parts) => messages_nodes(parts),
+    }
+}
+
+/// The same of those that lie in a vector.
 #[cycle(messages)]
 fn messages_nodes(ms: &[SMsg]) -> u64
     ensures { result ≡ stopped (msgs_size (msgs_of_list (map msg_of ms.now))) }

@@ -15,10 +15,10 @@ use Rattle.spi_audit.proofs.walking.walk_uses.Goals as goal
 
 pub loop-i-init : goal.loop-i-init
 loop-i-init c = record {
-  led = led_start c.args.judge.now c.args.keys.now c.args.process.now.names c.args.process.now.process c.len.ensures.small.few_names c.requires.names c.requires.free c.len-2.result (rule_uses c.args.d.now) c.push.new.self.items c.new-notes.result.items c.len-2.ensures (c.in_ok-push.ensures.items ∙ ap (λ xs. xs ++ A.Process 0 c.len-2.result Nothing ∷ []) c.new-asked.ensures.items) c.new-notes.ensures.items c.requires.tree;
+  led = led_start c.args.judge.now c.args.keys.now c.args.process.now.names c.args.process.now.process c.len.ensures.small.few_names c.requires.names c.requires.free c.len-2.result (rule_uses c.args.d.now) c.push.new.self.items c.in_ok-notes.notes.items c.len-2.ensures (c.in_ok-push.ensures.items ∙ ap (λ xs. xs ++ A.Process 0 c.len-2.result Nothing ∷ []) c.new-asked.ensures.items) c.in_ok-notes.ensures.items c.requires.tree;
   kept = c.requires.keys;
-  small = subst AreSmallNotes (sym c.new-notes.ensures.items) tt;
-  count = ap length c.new-notes.ensures.items;
+  small = subst AreSmallNotes (sym c.in_ok-notes.ensures.items) tt;
+  count = ap length c.in_ok-notes.ensures.items;
 }
 
 pub step-requires-clause-usage : goal.step-requires-clause-usage

@@ -1,3 +1,4 @@
+use Rattle.spi_count.specs.Adding.{SumOf}
 use Rattle.std.proofs.lemmas.Result.{on_ok_weaker}
 use Rattle.spi_message.specs.Forms.{cast_effect_of}
 use Rattle.spi_count.proofs.Summed.{no_effect, adds_quiet, adds_said}
@@ -8,16 +9,16 @@ returns-in-Nonce c =
     on_ok_weaker c.add_atoms.result (λ p u es k m h t. adds_said c.in-Nonce.ids c.args.sum.now c.add_atoms.new.sum u es k (c.in-Nonce.ensures u m) p h t) c.add_atoms.ensures
 
 pub returns-in-Un : goal.returns-in-Un
-returns-in-Un c u es k m h t = adds_quiet c.args.store.now c.args.keys.now c.args.sum.now es (cast_effect_of u) (no_effect _ u tt (c.in-Un.ensures u m)) t
+returns-in-Un c u es k m h t = adds_quiet SumOf c.args.store.now c.args.keys.now c.args.sum.now es (cast_effect_of u) (no_effect _ u tt (c.in-Un.ensures u m)) t
 
 pub returns-in-Unit : goal.returns-in-Unit
-returns-in-Unit c u es k m h t = adds_quiet c.args.store.now c.args.keys.now c.args.sum.now es (cast_effect_of u) (no_effect _ u tt (c.in-Unit.ensures u m)) t
+returns-in-Unit c u es k m h t = adds_quiet SumOf c.args.store.now c.args.keys.now c.args.sum.now es (cast_effect_of u) (no_effect _ u tt (c.in-Unit.ensures u m)) t
 
 pub returns-in-Pair : goal.returns-in-Pair
-returns-in-Pair c u es k m h t = adds_quiet c.args.store.now c.args.keys.now c.args.sum.now es (cast_effect_of u) (no_effect _ u tt (c.in-Pair.ensures u m)) t
+returns-in-Pair c u es k m h t = adds_quiet SumOf c.args.store.now c.args.keys.now c.args.sum.now es (cast_effect_of u) (no_effect _ u tt (c.in-Pair.ensures u m)) t
 
 pub returns-in-Sum : goal.returns-in-Sum
-returns-in-Sum c u es k m h t = adds_quiet c.args.store.now c.args.keys.now c.args.sum.now es (cast_effect_of u) (no_effect _ u tt (c.in-Sum.ensures u m)) t
+returns-in-Sum c u es k m h t = adds_quiet SumOf c.args.store.now c.args.keys.now c.args.sum.now es (cast_effect_of u) (no_effect _ u tt (c.in-Sum.ensures u m)) t
 
 pub returns-in-Key : goal.returns-in-Key
-returns-in-Key c u es k m h t = adds_quiet c.args.store.now c.args.keys.now c.args.sum.now es (cast_effect_of u) (no_effect _ u tt (c.in-Key.ensures u m)) t
+returns-in-Key c u es k m h t = adds_quiet SumOf c.args.store.now c.args.keys.now c.args.sum.now es (cast_effect_of u) (no_effect _ u tt (c.in-Key.ensures u m)) t

@@ -1,10 +1,11 @@
+use Rattle.spi_count.specs.Adding.{SumOf}
 use Rattle.std.proofs.Common.{take, ◌+◌}
 use Rattle.spi_count.proofs.Summed.{takes_none, takes_more, take_step}
 use Rattle.spi_count.proofs.atoms.take_atoms.Goals as goal
 
 pub loop-a-init : goal.loop-a-init
-loop-a-init c = takes_none c.args.keys.now c.args.sum.now
+loop-a-init c = takes_none SumOf c.args.keys.now c.args.sum.now
 
 pub loop-a-preserved : goal.loop-a-preserved
 loop-a-preserved c =
-    takes_more c.args.keys.now (take c.loop-a.a-index c.args.ids.now) (take (c.loop-a.a-index + 1) c.args.ids.now) _ c.args.sum.now c.loop-a.sum c.take_atom.new.sum (take_step c.args.ids.now c.loop-a.a-index _ c.loop-a-test.true) c.loop-a.invariant c.take_atom.ensures
+    takes_more SumOf c.args.keys.now (take c.loop-a.a-index c.args.ids.now) (take (c.loop-a.a-index + 1) c.args.ids.now) _ c.args.sum.now c.loop-a.sum c.take_atom.new.sum (take_step c.args.ids.now c.loop-a.a-index _ c.loop-a-test.true) c.loop-a.invariant c.take_atom.ensures

@@ -6,7 +6,7 @@ use Rattle.spi_fault.proofs.least.least_text.Given as goal
 abbrev pub invariant-loop-i : goal.invariant-loop-i
 invariant-loop-i l = record {
   within : l.i ≤ length l.atoms;
-  best : IsBest l.names (IsOf l.kind) (take l.i (map atom l.atoms)) l.best;
+  best : IsBest l.names (IsOf l.kind) (map atom l.atoms) (take l.i (map atom l.atoms)) l.best;
 }
 
 abbrev pub decreases-loop-i : goal.decreases-loop-i

@@ -44,8 +44,7 @@ loop-id-preserved-then-branch c = record {
 
 pub returns-in-Some-clause-effect : goal.returns-in-Some-clause-effect
 returns-in-Some-clause-effect c env e q h n =
-    c.in_ok-effect-in-Some.ensures c.args.store.now c.args.noted.now.keys _
-    (ends_with c.args.store.now c.args.noted.now c.args.process.now.names c.args.process.now.process env h c.args.from e q n c.loop-id.id (at_from c.loop-id.invariant.within c.loop-id-test.false) c.loop-id.stack.items (c.loop-id.invariant.stack_is env h) c.pop.new.self.items c.in-Some.pile c.in-Some.ensures.items)
+    ends_with c.args.store.now c.args.noted.now c.args.process.now.names c.args.process.now.process env h c.args.from e q n c.loop-id.id (at_from c.loop-id.invariant.within c.loop-id-test.false) c.loop-id.stack.items (c.loop-id.invariant.stack_is env h) c.pop.new.self.items c.in-Some.pile c.in-Some.ensures.items
 
 pub returns-in-Some-clause-stuck : goal.returns-in-Some-clause-stuck
 returns-in-Some-clause-stuck c env h =

@@ -25,14 +25,14 @@ read_back-requires g c =
     let j = c.stands_for_one.ensures in
     let noted = noted_is g (goal.at.read_back-requires g c).After-store-store j.env j.stands in
     let w = some_node c.args.process.now.process j.env c.args.node c.requires.node in
-    (effect_of (numbered [] (length w.0) w.1) w.0, record { once = c.in_ok-sum.ensures.once; keyed = noted.keyed }, c.in_ok-sum.ensures.effect j.env w.0 w.1 noted w.2)
+    (effect_of (numbered [] (length w.0) w.1) w.0, record { once = c.in_ok-pile.ensures.once; keyed = noted.keyed }, c.in_ok-pile.ensures.effect j.env w.0 w.1 noted w.2)
 
 pub returns-clause-effect : goal.returns-clause-effect
 returns-clause-effect g c env e q h n =
     let noted = noted_is g (goal.at.returns-clause-effect g c).After-store-store env h in
     let over = over_at c.args.process.now.names c.args.process.now.process env e q c.args.node noted.names n c.len.ensures.over in
-    read_least e q (effect_of (numbered [] (length e) q) e) c.in_ok-effect.effect over refl (c.in_ok-effect.ensures (effect_of (numbered [] (length e) q) e) (c.in_ok-sum.ensures.effect env e q noted n))
+    read_least e q (effect_of (numbered [] (length e) q) e) c.in_ok-effect.effect over refl (c.in_ok-effect.ensures (effect_of (numbered [] (length e) q) e) (c.in_ok-pile.ensures.effect env e q noted n))
 
 pub returns-clause-stuck : goal.returns-clause-stuck
 returns-clause-stuck g c env h =
-    c.in_ok-sum.ensures.stuck env (noted_is g (goal.at.returns-clause-stuck g c).After-store-store env h)
+    c.in_ok-pile.ensures.stuck env (noted_is g (goal.at.returns-clause-stuck g c).After-store-store env h)

@@ -15,7 +15,7 @@ use Rattle.spi_parse.specs.Places.{state_of}
 use Rattle.spi_parse.specs.Ends.{done}
 use Rattle.spi_parse.specs.Wholes.{one_form, two_form, three_form, sub_form}
 use Rattle.spi_parse.specs.Rules.{arity_of, writes_effect}
-use Rattle.spi_parse.specs.Table.{deriv, rule_move, over}
+use Rattle.spi_parse.specs.Table.{deriv, rule_move, word_at, over}
 use Rattle.spi_parse.specs.Reading.{Out, Gives, read, limited, go_on}
 use Rattle.spi_parse.proofs.Readers.{at, read_is_step}
 use Rattle.spi_parse.proofs.DerivLaws.{rule_is_first, none_first, above_first}
@@ -56,35 +56,30 @@ derivation-returns-in_err-fits t c =
 pub derivation-returns-in-Leaf : goal.derivation-returns-in-Leaf
 derivation-returns-in-Leaf t c =
     let fits : c.args.nesting ≤ 1000 = omega arith in
-    let gives = subst (λ (l : List SDeriv). PartRead c.end_use.result (done (trees.rule (over (c.in_ok-name.name.span ∷ []) c.first-item.result.span.to) c.in_ok-name.name None (trees.derivs_of_list (map deriv_of l))) (at c.first-item.result.span.to (map tok (take (length c.args.at.rest.now - 1) (drop 1 c.args.at.rest.now)))))) c.new.ensures.items c.end_use.ensures in
-    let gives = subst (λ (s : SWord). PartRead c.end_use.result (done (trees.rule (over (s.span ∷ []) c.first-item.result.span.to) s None (trees.derivs_of_list [])) (at c.first-item.result.span.to (map tok (take (length c.args.at.rest.now - 1) (drop 1 c.args.at.rest.now)))))) c.in_ok-name.ensures gives in
+    let gives = subst (λ (l : List SDeriv). PartRead c.end_use.result (done (trees.rule (over (c.first-item.result.span ∷ []) c.first-item.result.span.to) (word_at c.in-Word.word c.first-item.result.span) None (trees.derivs_of_list (map deriv_of l))) (at c.first-item.result.span.to (map tok (take (length c.args.at.rest.now - 1) (drop 1 c.args.at.rest.now)))))) c.new.ensures.items c.end_use.ensures in
     by_rule c.args.later c.args.nesting c.args.at c.first-item.result c.in-Word.word c.as_str.result.now (Some 0) false c.end_use.result
     c.in-len1-up.len_at_least c.first-item.is (search rules) (search rules) c.in-Leaf.ensures.0 c.in-Leaf.ensures.1 fits gives
 
 pub derivation-returns-in-One : goal.derivation-returns-in-One
 derivation-returns-in-One t c =
     let fits : c.args.nesting ≤ 1000 = omega arith in
-    let gives = subst (λ (s : SWord). PartRead c.read_one.result (one_form c.args.later c.args.nesting s.word (s.span ∷ []) (at c.first-item.result.span.to (map tok (take (length c.args.at.rest.now - 1) (drop 1 c.args.at.rest.now)))))) c.in_ok-name.ensures c.read_one.ensures in
     by_rule c.args.later c.args.nesting c.args.at c.first-item.result c.in-Word.word c.as_str.result.now (Some 1) false c.read_one.result
-    c.in-len1-up.len_at_least c.first-item.is (search rules) (search rules) c.in-One.ensures.0 c.in-One.ensures.1 fits gives
+    c.in-len1-up.len_at_least c.first-item.is (search rules) (search rules) c.in-One.ensures.0 c.in-One.ensures.1 fits c.read_one.ensures
 
 pub derivation-returns-in-Two : goal.derivation-returns-in-Two
 derivation-returns-in-Two t c =
     let fits : c.args.nesting ≤ 1000 = omega arith in
-    let gives = subst (λ (s : SWord). PartRead c.read_two.result (two_form c.args.later c.args.nesting s.word (s.span ∷ []) (at c.first-item.result.span.to (map tok (take (length c.args.at.rest.now - 1) (drop 1 c.args.at.rest.now)))))) c.in_ok-name.ensures c.read_two.ensures in
     by_rule c.args.later c.args.nesting c.args.at c.first-item.result c.in-Word.word c.as_str.result.now (Some 2) false c.read_two.result
-    c.in-len1-up.len_at_least c.first-item.is (search rules) (search rules) c.in-Two.ensures.0 c.in-Two.ensures.1 fits gives
+    c.in-len1-up.len_at_least c.first-item.is (search rules) (search rules) c.in-Two.ensures.0 c.in-Two.ensures.1 fits c.read_two.ensures
 
 pub derivation-returns-in-Three : goal.derivation-returns-in-Three
 derivation-returns-in-Three t c =
     let fits : c.args.nesting ≤ 1000 = omega arith in
-    let gives = subst (λ (s : SWord). PartRead c.read_three.result (three_form c.args.later c.args.nesting s.word (s.span ∷ []) (at c.first-item.result.span.to (map tok (take (length c.args.at.rest.now - 1) (drop 1 c.args.at.rest.now)))))) c.in_ok-name.ensures c.read_three.ensures in
     by_rule c.args.later c.args.nesting c.args.at c.first-item.result c.in-Word.word c.as_str.result.now (Some 3) false c.read_three.result
-    c.in-len1-up.len_at_least c.first-item.is (search rules) (search rules) c.in-Three.ensures.0 c.in-Three.ensures.1 fits gives
+    c.in-len1-up.len_at_least c.first-item.is (search rules) (search rules) c.in-Three.ensures.0 c.in-Three.ensures.1 fits c.read_three.ensures
 
 pub derivation-returns-in-Sub : goal.derivation-returns-in-Sub
 derivation-returns-in-Sub t c =
     let fits : c.args.nesting ≤ 1000 = omega arith in
-    let gives = subst (λ (s : SWord). PartRead c.read_sub.result (sub_form c.args.later c.args.nesting s.word (s.span ∷ []) (at c.first-item.result.span.to (map tok (take (length c.args.at.rest.now - 1) (drop 1 c.args.at.rest.now)))))) c.in_ok-name.ensures c.read_sub.ensures in
     by_rule c.args.later c.args.nesting c.args.at c.first-item.result c.in-Word.word c.as_str.result.now (Some 1) true c.read_sub.result
-    c.in-len1-up.len_at_least c.first-item.is (search rules) (search rules) c.in-Sub.ensures.0 c.in-Sub.ensures.1 fits gives
+    c.in-len1-up.len_at_least c.first-item.is (search rules) (search rules) c.in-Sub.ensures.0 c.in-Sub.ensures.1 fits c.read_sub.ensures

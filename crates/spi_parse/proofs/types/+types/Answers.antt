@@ -15,29 +15,32 @@ use Rattle.spi_parse.proofs.types.+types.Goals as goal
 pub next_field-returns-in_err-fits-in-Word : goal.next_field-returns-in_err-fits-in-Word
 next_field-returns-in_err-fits-in-Word t c = rw read_is_step (grind (arith, common_steps))
 
-pub read_type-returns-in_err-fits-in-Word : goal.read_type-returns-in_err-fits-in-Word
-read_type-returns-in_err-fits-in-Word t c = rw read_is_step (grind (arith, common_steps))
+pub any_type-returns-in_err-fits-in-Word : goal.any_type-returns-in_err-fits-in-Word
+any_type-returns-in_err-fits-in-Word t c = rw read_is_step (grind (arith, common_steps))
+
+pub any_type-returns-in_err-fits-in-Reserved-Un : goal.any_type-returns-in_err-fits-in-Reserved-Un
+any_type-returns-in_err-fits-in-Reserved-Un t c = rw read_is_step (grind (arith, common_steps))
+
+pub any_type-returns-in_err-fits-in-Reserved-Key : goal.any_type-returns-in_err-fits-in-Reserved-Key
+any_type-returns-in_err-fits-in-Reserved-Key t c = rw read_is_step (grind (arith, common_steps))
+
+pub any_type-returns-in_err-fits-in-Reserved-Nonce : goal.any_type-returns-in_err-fits-in-Reserved-Nonce
+any_type-returns-in_err-fits-in-Reserved-Nonce t c = rw read_is_step (grind (arith, common_steps))
+
+pub any_type-returns-in_err-fits-in-Mark-ParenOpen : goal.any_type-returns-in_err-fits-in-Mark-ParenOpen
+any_type-returns-in_err-fits-in-Mark-ParenOpen t c = rw read_is_step (grind (arith, common_steps))
+
+pub any_type-returns-in_ok-fits-in-Reserved-Key : goal.any_type-returns-in_ok-fits-in-Reserved-Key
+any_type-returns-in_ok-fits-in-Reserved-Key t c = rw read_is_step (grind (arith, common_steps))
+
+pub any_type-returns-in_ok-fits-in-Mark-ParenOpen : goal.any_type-returns-in_ok-fits-in-Mark-ParenOpen
+any_type-returns-in_ok-fits-in-Mark-ParenOpen t c = rw read_is_step (grind (arith, common_steps))
+
+pub any_type-returns-in_default : goal.any_type-returns-in_default
+any_type-returns-in_default t c = rw read_is_step (grind (arith, common_steps))
 
 pub read_type-returns-in_err-fits-in-Reserved-Un : goal.read_type-returns-in_err-fits-in-Reserved-Un
 read_type-returns-in_err-fits-in-Reserved-Un t c = rw read_is_step (grind (arith, common_steps))
-
-pub read_type-returns-in_err-fits-in-Reserved-Key : goal.read_type-returns-in_err-fits-in-Reserved-Key
-read_type-returns-in_err-fits-in-Reserved-Key t c = rw read_is_step (grind (arith, common_steps))
-
-pub read_type-returns-in_err-fits-in-Reserved-Nonce : goal.read_type-returns-in_err-fits-in-Reserved-Nonce
-read_type-returns-in_err-fits-in-Reserved-Nonce t c = rw read_is_step (grind (arith, common_steps))
-
-pub read_type-returns-in_err-fits-in-Mark-ParenOpen : goal.read_type-returns-in_err-fits-in-Mark-ParenOpen
-read_type-returns-in_err-fits-in-Mark-ParenOpen t c = rw read_is_step (grind (arith, common_steps))
-
-pub read_type-returns-in_ok-fits-in-Reserved-Key : goal.read_type-returns-in_ok-fits-in-Reserved-Key
-read_type-returns-in_ok-fits-in-Reserved-Key t c = rw read_is_step (grind (arith, common_steps))
-
-pub read_type-returns-in_ok-fits-in-Mark-ParenOpen : goal.read_type-returns-in_ok-fits-in-Mark-ParenOpen
-read_type-returns-in_ok-fits-in-Mark-ParenOpen t c = rw read_is_step (grind (arith, common_steps))
-
-pub read_type-returns-in_default : goal.read_type-returns-in_default
-read_type-returns-in_default t c = rw read_is_step (grind (arith, common_steps))
 
 pub read_fields-items-smaller : goal.read_fields-items-smaller
 read_fields-items-smaller t c =

@@ -11,6 +11,9 @@ decreases-boxed_type l = 20 * (1001 - l.nesting) + 5
 abbrev pub decreases-read_type : goal.decreases-read_type
 decreases-read_type l = 20 * (1001 - l.nesting) + 4
 
+abbrev pub decreases-any_type : goal.decreases-any_type
+decreases-any_type l = 20 * (1001 - l.nesting) + 3
+
 abbrev pub decreases-read_key : goal.decreases-read_key
 decreases-read_key l = 20 * (1001 - l.nesting) + 0
 

@@ -36,17 +36,17 @@ compose-returns-clause-adds t c =
     let o : c.read_process.new.scope.held.noted ≡ c.push.new.scope.held.noted ++ scopes xs (proc_of c.args.first.now) = rw n0 at r.noted in
     let a = c.in_ok-at.ensures in
     let b = c.in_ok-next.ensures in
-    let d = c.close.ensures in
+    let d = c.close_pair.ensures in
     on_ok_weaker c.read_process-2.result
     (λ h.
     let m : c.read_process-2.new.scope.held.noted ≡ c.add.new.scope.held.noted ++ scopes xs (proc_of c.args.rest.now) = rw n at h.noted in
     record {
-      nodes = fork_nodes Pars (map shape_of c.args.arena.now.nodes.items) (map shape_of c.push.new.arena.nodes.items) (map shape_of c.read_process.new.arena.nodes.items) (map shape_of c.close.new.arena.nodes.items) (map shape_of c.read_process-2.new.arena.nodes.items)
-          p q k k k _ _ _ (length c.push.new.arena.nodes.items) (length c.close.new.arena.nodes.items) _
+      nodes = fork_nodes Pars (map shape_of c.args.arena.now.nodes.items) (map shape_of c.push.new.arena.nodes.items) (map shape_of c.read_process.new.arena.nodes.items) (map shape_of c.close_pair.new.arena.nodes.items) (map shape_of c.read_process-2.new.arena.nodes.items)
+          p q k k k _ _ _ (length c.push.new.arena.nodes.items) (length c.close_pair.new.arena.nodes.items) _
           g.nodes f (rw c.len-base.ensures at d.nodes) (rw (n, y) at h.nodes) i
           a.0 (sym (length-map c.args.arena.now.nodes.items shape_of)) (next_one (length c.push.new.arena.nodes.items) i g.len) (one_more c.in_ok-at.at i a.0)
           (next_rest c.in_ok-next.next (length c.read_process.new.arena.nodes.items) (length c.push.new.arena.nodes.items) i (process_size p) b.0 l g.len)
-          (next_rest (length c.close.new.arena.nodes.items) (length c.read_process.new.arena.nodes.items) (length c.push.new.arena.nodes.items) i (process_size p) d.len l g.len)
+          (next_rest (length c.close_pair.new.arena.nodes.items) (length c.read_process.new.arena.nodes.items) (length c.push.new.arena.nodes.items) i (process_size p) d.len l g.len)
           (none_in k) (none_in k);
       placed = fork_kept c.args.arena.now.places.items c.push.new.arena.places.items c.read_process.new.arena.places.items c.read_process-2.new.arena.places.items
           c.args.span (places (proc_of c.args.first.now)) (places (proc_of c.args.rest.now))

@@ -15,8 +15,8 @@ loop-at-preserved c =
     record {
       read =
           rw c.in_ok-push.ensures.items
-          (append_assoc found (c.in_ok-of.field-0 ∷ []) (chain_at cs c.index-links-at.result.outer)
-          ∙ ap (λ y. found ++ y ∷ chain_at cs c.index-links-at.result.outer) (c.in_ok-of.ensures ∙ c.as_str.ensures)
+          (append_assoc found (c.in_ok-copy.field-0 ∷ []) (chain_at cs c.index-links-at.result.outer)
+          ∙ ap (λ y. found ++ y ∷ chain_at cs c.index-links-at.result.outer) c.in_ok-copy.ensures
           ∙ ap (λ l. found ++ l) (sym st.0) ∙ c.loop-at.invariant.read);
       within = omega (arith, st.1, c.loop-at.invariant.within);
     }

@@ -1,7 +1,6 @@
-use Rattle.std.proofs.Common.{◌≡◌, ℕ, ◌+◌, ◌++◌, List, [], map, length, get_or, sym, ap, ◌∙◌, subst, append-nil}
+use Rattle.std.proofs.Common.{◌≡◌, ℕ, ◌+◌, ◌++◌, List, map, length, sym, ap, ◌∙◌, subst, append-nil}
 use Rattle.std.proofs.lemmas.List.{length-map, drop_all}
 use Rattle.spi_scope.specs.Chains.{Pair, link, spelled_pair, AreNumbersBelow, LeadBack}
-use Rattle.spi_scope.specs.declared.trail.Link.{Link}
 use Rattle.spi_scope.proofs.Trails.{pair_of, copied_more}
 use Rattle.spi_scope.proofs.trail.Trail.scopes.Goals as goal
 
@@ -22,8 +21,7 @@ invariant_of-result c =
 
 pub loop-link-preserved : goal.loop-link-preserved
 loop-link-preserved c =
-    let d : Link = record { word = record { ref_ptr = (0, 0); now = [] }; outer = 0 } in
     let items = c.deref-link-items.result.now in
-    let y = get_or items c.loop-link.link-index d in
-    copied_more c.push.new.self.items c.loop-link.links.items items c.loop-link.link-index (record { word = c.in_ok-word.word; outer = y.outer }) d c.in_ok-push.ensures.items c.loop-link-test.true
-    (ap (λ (w : List ℕ). pair_of w y.outer) c.in_ok-word.ensures) c.loop-link.invariant
+    let y = c.link-item.result in
+    copied_more c.push.new.self.items c.loop-link.links.items items c.loop-link.link-index (record { word = c.in_ok-word.word; outer = y.outer }) y c.in_ok-push.ensures.items c.loop-link-test.true
+    (ap (λ (w : List ℕ). pair_of w y.outer) c.in_ok-word.ensures ∙ ap link c.link-item.is) c.loop-link.invariant

@@ -1,0 +1,14 @@
+use Rattle.spi_term.specs.Term.{un}
+use Rattle.spi_term.specs.View.{message}
+use Rattle.spi_message.proofs.Tested.{kept_more, message_kept, type_kept}
+use Rattle.spi_infer.proofs.terms.of_both.Goals as goal
+
+pub returns-clause-each : goal.returns-clause-each
+returns-clause-each c =
+    record {
+      un = type_kept {j = c.un.new.self} {k = c.ty.new.self} c.in_ok-un.un.place un (kept_more c.in_ok-message.ensures.kept c.in_ok-ty.ensures.kept) c.in_ok-un.ensures.at;
+      message = message_kept {j = c.message.new.self} {k = c.ty.new.self} c.in_ok-message.message.place (message c.args.m.now) c.in_ok-ty.ensures.kept c.in_ok-message.ensures.at;
+      other = tt;
+      ty = c.in_ok-ty.ensures.at;
+      second = tt;
+    }
