@@ -7,7 +7,7 @@ ghost use Rattle.spi_commands.specs.Refusals.{Refuses};
 use crate::NoMemory;
 use crate::refusing::refusal_line;
 use crate::tokens::{LIMIT, tokens_of};
-use spi_commands::{Status, Unread, read, refuse_too_many};
+use spi_commands::{Afterwards, Status, Unread, read, refuse_too_many};
 use spi_explain::{Explained, explain_file};
 use spi_fault::Fault;
 use spi_report::Refusal;
@@ -135,7 +135,7 @@ pub fn advise(alloc: Global, bytes: &[u8], style: Style) -> Result<Advice, NoMem
     if bytes.len() > LIMIT {
         return of_too_many(alloc, style);
     }
-    match read(alloc, bytes) {
+    match read(alloc, Afterwards::GoesOn, bytes) {
         Ok(file) => of_file(alloc, bytes, &file, style),
         Err(Unread::Refused(r)) => of_refusal(alloc, bytes, &r, style),
         Err(Unread::NoMemory) => Err(AllocError),

@@ -12,7 +12,7 @@ ghost use Rattle.spi_advice.specs.Tracing.{Traces, EndsWith};
 use crate::NoMemory;
 use crate::refusing::refusal_line;
 use crate::tokens::{LIMIT, tokens_of};
-use spi_commands::{Status, Unread, read, refuse_too_many};
+use spi_commands::{Afterwards, Status, Unread, read, refuse_too_many};
 use spi_course::{Account, Course, Untold, course_text};
 use spi_report::{Refusal, first_unpaid, refused};
 use spi_run::Event;
@@ -179,7 +179,7 @@ pub fn traced(alloc: Global, bytes: &[u8], chart: bool) -> Result<Trace, NoMemor
     if bytes.len() > LIMIT {
         return of_too_many(alloc);
     }
-    match read(alloc, bytes) {
+    match read(alloc, Afterwards::GoesOn, bytes) {
         Ok(file) => of_file(alloc, bytes, &file, chart),
         Err(Unread::Refused(r)) => of_refusal(alloc, bytes, &r),
         Err(Unread::NoMemory) => Err(AllocError),

@@ -1,5 +1,5 @@
 -- What the commands answer on their input.
-use Rattle.std.proofs.Common.{◌≡◌, ◌≢◌, ◌∙◌, ℕ, List, Option, Some, Result, Ok, Err, IfOk, refl, sym, subst, ap, inl, true, false, true≢false}
+use Rattle.std.proofs.Common.{◌≡◌, ◌≢◌, ◌⊎◌, ◌∙◌, ℕ, List, Option, Some, Result, Ok, Err, IfOk, refl, sym, subst, ap, inl, inr, true, false, true≢false}
 use Rattle.std.specs.Prelude.{OnErr, IsErrOf}
 use Rattle.spi_play.specs.Way.{Seen}
 use Rattle.spi_commands.specs.declared.answer.Answer.{Answer}
@@ -145,6 +145,17 @@ unread_file command over bytes players cause (Ok a) why (e, line) err =
     subst (λ (s : Status). AnswersTo command bytes players players s a.output.items) (sym e)
     (file_refused command over bytes a.output.items players (line_map bytes a.output.items (IsCauseOf cause) (Refuses bytes) (caused (Refuses bytes) cause why) line))
 unread_file command over bytes players cause (Err s) why h err = (ap stop_in err, λ most only f. not_asked)
+
+-- and one of a command that goes over tokens
+goes_over_tokens : (command : Command) → (command ≡ Narrate) ⊎ (command ≡ Bench) → (sessions : ℕ) → command ≢ Load sessions
+goes_over_tokens command (inl is) sessions e = absurd (cc)
+goes_over_tokens command (inr is) sessions e = absurd (cc)
+
+pub unread_tokens : (command : Command) → (command ≡ Narrate) ⊎ (command ≡ Bench) → (bytes : List ℕ) (players : List Seen) (cause : Unread) (result : Result Answer Stop) → IsUnreadBy (IsUnlexed bytes) cause
+    → IfOk result (λ a. (a.status ≡ Refused) × IsLineOf bytes (IsCauseOf cause) a.output.items) → OnErr result (result ≡ Err OutOfMemory) → IsAnsweredBy command bytes players players result
+unread_tokens command over bytes players cause (Ok a) why (e, line) err =
+    unlexed_answer command (goes_over_tokens command over) bytes a.output.items a.output.items players a.status e refl (line_map bytes a.output.items (IsCauseOf cause) (IsUnlexed bytes) (caused (IsUnlexed bytes) cause why) line)
+unread_tokens command over bytes players cause (Err s) why h err = (ap stop_in err, λ most only f. not_asked)
 
 -- ---- inputs
 

@@ -1,5 +1,5 @@
 -- What is taken of an input.
-use Rattle.std.proofs.Common.{◌≡◌, ℕ, ◌+◌, ◌<◌, ◌≤◌, List, [], ◌++◌, length, Option, Some, None, Result, Ok, Err, IfOk, IfSome, ap, sym, ◌∙◌, subst, arith, append-nil, take, refl, inl}
+use Rattle.std.proofs.Common.{◌≡◌, ℕ, ◌+◌, ◌<◌, ◌≤◌, List, [], ◌++◌, length, Option, Some, None, Result, Ok, Err, IfOk, IfSome, ap, sym, ◌∙◌, arith, append-nil, take, refl, inl}
 use Rattle.std.specs.Prelude.{OnOk}
 use Rattle.std.specs.Fmt.{decimal}
 use Rattle.std.specs.Io.KnownBytes.{Appends}
@@ -39,10 +39,9 @@ takes_long None new t = tt
 takes_long (Some bytes) new t = let long = taken_long (Some bytes) new t in (λ l. absurd (omega (arith, long, l)), λ l. t)
 
 -- the text of the bytes that were left
-pub text_taken : {E : Type 0} (old new : Option (List ℕ)) (taken : List ℕ) (result : Result Text E) → TakesAllBytes old new taken → IfOk result (λ text. GivesText taken text) → IfOk result (λ text. IfSome old (λ bytes. GivesText bytes text))
-text_taken None new taken (Ok a) all is = tt
-text_taken (Some bytes) new taken (Ok a) all is = subst (λ (bs : List ℕ). GivesText bs a) (sym (all_taken bytes new taken all)) is
-text_taken old new taken (Err e) all is = tt
+pub text_taken : (old new : Option (List ℕ)) (taken : List ℕ) → TakesAllBytes old new taken → IfSome old (λ bytes. bytes ≡ taken)
+text_taken None new taken all = tt
+text_taken (Some bytes) new taken all = all_taken bytes new taken all
 
 pub text_long : {E : Type 0} (left : Option (List ℕ)) (result : Result Text E) → IfSome left (λ bytes. limit < length bytes) → IfOk result (λ text. (bytes : List ℕ) → limit < length bytes → GivesText bytes text) → IfOk result (λ text. IfSome left (λ bytes. GivesText bytes text))
 text_long None (Ok a) long is = tt

@@ -12,7 +12,7 @@ use Rattle.spi_scope.specs.StandsFor.{StandsFor}
 use Rattle.spi_commands.specs.declared.reading.Unread.{Unread}
 use Rattle.spi_commands.specs.declared.reading.Unread.TheVariants.{Refused, NoMemory}
 use Rattle.spi_commands.specs.declared.text.Text.{Text}
-use Rattle.spi_commands.specs.declared.text.Text.TheVariants.{Lexed, Refused as RefusedText}
+use Rattle.spi_commands.specs.declared.text.Text.TheVariants.{Bytes, Refused as RefusedText}
 use Rattle.spi_commands.specs.Spelled.{limit, IsTreeOf}
 use Rattle.spi_commands.specs.Refusals.{Refuses, IsUnlexed, IsLineOf, IsCause}
 
@@ -50,12 +50,12 @@ HasTokens bytes tokens =
     (length bytes ≤ limit) × Lexes bytes (Ok tokens) × AreKinds (kinds_of tokens)
     × AreSpans 0 (spans_of tokens) (length bytes)
 
--- a text has its tokens, unless it is the line of a refusal
+-- a text has no more bytes than an input may have, unless it is the line of a refusal
 abbrev pub IsText : Text → Type 0
-IsText (Lexed bytes tokens) = HasTokens bytes.items tokens.items
+IsText (Bytes bytes) = length bytes.items ≤ limit
 IsText (RefusedText line) = ⊤
 
 -- the text is the one of these bytes
 abbrev pub GivesText : List ℕ → Text → Type 0
-GivesText bytes (Lexed taken tokens) = bytes ≡ taken.items
+GivesText bytes (Bytes taken) = bytes ≡ taken.items
 GivesText bytes (RefusedText line) = IsLineOf bytes (IsUnlexed bytes) line.items

@@ -1,6 +1,6 @@
 -- What bytes are refused for, by layers. A layer says which causes it has: the number of each, the offset at which it
 -- stands, and what it shows. A cause of a layer presupposes that the layers before it have none.
-use Rattle.std.specs.Prelude.{◌≡◌, ◌⊎◌, ℕ, ◌+◌, ◌<◌, ◌≤◌, List, [], ◌∷◌, length, drop, Ok, Err, Some, None}
+use Rattle.std.specs.Prelude.{◌≡◌, ◌⊎◌, ℕ, ◌+◌, ◌<◌, ◌≤◌, List, [], length, drop, Ok, Err, Some, None}
 use Rattle.std.specs.Fmt.{decimal}
 use Rattle.std.specs.declared.option.Option.{Option}
 use Rattle.spi_lex.specs.declared.token.Token.{Token}
@@ -9,6 +9,7 @@ use Rattle.spi_lex.specs.Lexing.{Lexes, kinds_of}
 use Rattle.spi_tree.specs.Trees.{File}
 use Rattle.spi_tree.specs.Pieces.{Piece}
 use Rattle.spi_parse.specs.Formed.{IsFile, whole_file}
+pub use Rattle.spi_parse.specs.Bytes.{start_of_fault}
 use Rattle.spi_parse.specs.Exact.{IsSyntaxAt, IsDeepAt}
 use Rattle.spi_scope.specs.declared.fault.ScopeFault.{ScopeFault}
 use Rattle.spi_scope.specs.declared.fault.ScopeFault.TheVariants.{UnknownName, UnknownType, NameTwice, TypeTwice, MessageTooLarge, TypeTooLarge, FileTooLarge, ScheduleTooLong, NoMemory as OutOfMemory}
@@ -57,11 +58,6 @@ pub data IsUnlexed (bytes : List ℕ) : ℕ → Option ℕ → List ℕ → Type
       → IsUnlexed bytes 13 (Some at) []
 
 -- ---- syntax
-
--- where a token begins, and at the end of the tokens the end of the bytes
-abbrev pub start_of_fault : List ℕ → List Token → ℕ
-start_of_fault bytes [] = length bytes
-start_of_fault bytes (token ∷ rest) = token.span.from
 
 -- the tokens are those of no formed text of this kind, whose texts have these pieces
 pub data IsUnparsed {X : Type 0} (pieces : X → List Piece) (IsFormed : X → Type 0) (bytes : List ℕ) : ℕ

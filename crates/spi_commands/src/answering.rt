@@ -1,9 +1,9 @@
 // What a command answers on its input.
-ghost use Rattle.std.specs.Prelude.{◌≡◌, ◌≢◌, ◌≤◌, ℕ, List, length, vec_len, IfOk, OnErr, Err, Some, false};
-ghost use Rattle.spi_play.specs.Way.{seen_of};
+ghost use Rattle.std.specs.Prelude.{◌≡◌, ◌≢◌, ◌≤◌, ◌⊎◌, ℕ, List, length, vec_len, IfOk, OnErr, Err, Some, false};
+ghost use Rattle.spi_play.specs.Way.{Seen, seen_of};
 ghost use Rattle.spi_commands.specs.Answering.{GoesOverFile, IsAnsweredBy};
 ghost use Rattle.spi_commands.specs.Asked.{AreNumbersKnown, is_play};
-ghost use Rattle.spi_commands.specs.Reading.{IsRead, IsText, GivesText, HasTokens};
+ghost use Rattle.spi_commands.specs.Reading.{IsRead, IsText, GivesText};
 ghost use Rattle.spi_commands.specs.Run.{IsAnswered};
 
 use crate::afterwards::Afterwards;
@@ -11,19 +11,19 @@ use crate::answer::{Answer, Stop, answer_with};
 use crate::asked::Command;
 use crate::bench::benched;
 use crate::canonical::shown;
-use crate::causes::refused_for;
+use crate::causes::{refused_for, unlexed};
 use crate::derive::derived;
 use crate::knows::known;
 use crate::narrate::narrated;
 use crate::play::played;
-use crate::reading::read_tokens;
+use crate::reading::read;
 use crate::rejection::judged;
 use crate::replay::replayed;
 use crate::status::Status;
 use crate::text::Text;
 use crate::upgrade::upgraded;
 use crate::verify::verified;
-use spi_lex::Token;
+use spi_lex::lex;
 use spi_play::Player;
 use spi_scope::{File, faults_stand_at_nodes};
 use std::alloc::Global;
@@ -48,25 +48,22 @@ pub fn answers(
     ensures err { OnErr result (result ≡ Err Stop.NoMemory) }
 {
     match text {
-        Text::Lexed { bytes, tokens } => on_tokens(
-            alloc, afterwards, command, &bytes, tokens, players,
-        ),
+        Text::Bytes(bytes) => on_bytes(alloc, afterwards, command, &bytes, players),
         Text::Refused(line) => Ok(answer_with(Status::Refused, line)),
     }
 }
 
-/// What the command answers on these bytes, which have these tokens.
-fn on_tokens(
+/// What the command answers on these bytes.
+fn on_bytes(
     alloc: Global,
     afterwards: Afterwards,
     command: Command,
     bytes: &[u8],
-    tokens: Vec<Token>,
     players: &mut Vec<Box<dyn Player>>,
 ) -> Result<Answer, Stop>
     requires known { AreNumbersKnown (vec_len players.old) command }
     requires reads { (sessions : ℕ) → command ≢ Command.Load sessions }
-    requires tokens { HasTokens bytes.now tokens.items }
+    requires sized { length bytes.now ≤ 16_777_216 }
     ensures answers { IsAnsweredBy command bytes.now
         (seen_of (λ b. times b) (λ b. way b) players.old.items)
         (seen_of (λ b. times b) (λ b. way b) players.new.items) result }
@@ -74,12 +71,27 @@ fn on_tokens(
 {
     faults_stand_at_nodes();
     match command {
-        Command::Narrate => narrated(alloc, bytes, &tokens),
-        Command::Bench => benched(alloc, bytes, &tokens),
-        _ => match read_tokens(alloc, afterwards, bytes, tokens) {
+        Command::Narrate | Command::Bench => on_tokens(alloc, command, bytes),
+        _ => match read(alloc, afterwards, bytes) {
             Ok(file) => on_file(alloc, afterwards, command, bytes, file, players),
             Err(cause) => refused_for(alloc, bytes, &cause),
         },
+    }
+}
+
+/// What `narrate` or `bench` answers on the tokens of these bytes.
+fn on_tokens(alloc: Global, command: Command, bytes: &[u8]) -> Result<Answer, Stop>
+    requires over { (command ≡ Command.Narrate) ⊎ (command ≡ Command.Bench) }
+    requires sized { length bytes.now ≤ 16_777_216 }
+    ensures { (players : List Seen) → IsAnsweredBy command bytes.now players players result }
+{
+    match lex(alloc, bytes) {
+        Ok(tokens) => match command {
+            Command::Narrate => narrated(alloc, bytes, &tokens),
+            Command::Bench => benched(alloc, bytes, &tokens),
+            _ => unreachable!(),
+        },
+        Err(fault) => refused_for(alloc, bytes, &unlexed(alloc, bytes, fault)),
     }
 }
 

@@ -1,4 +1,4 @@
-// The text of an input: the bytes that a source has left, and their tokens.
+// The text of an input: the bytes that a source has left, where they are no more than an input may have.
 ghost use Rattle.std.specs.Prelude.{◌≡◌, ◌+◌, ◌<◌, ◌≤◌, ℕ, List, length, IfOk, IfSome, OnOk, OnErr, IsErrOf, Err};
 ghost use Rattle.spi_io.specs.Causes.{Rose, TakesUpTo};
 ghost use Rattle.spi_commands.specs.Spelled.{limit};
@@ -7,10 +7,7 @@ ghost use Rattle.spi_commands.specs.Reading.{IsText, GivesText};
 ghost use Rattle.spi_commands.specs.Run.{TakesInput};
 
 use crate::answer::{Stop, refusal_line};
-use crate::causes::unlexed;
-use crate::reading::Unread;
 use spi_io::{Source, Taken, take_all};
-use spi_lex::{Token, lex};
 use spi_report::Refusal;
 use std::alloc::{AllocError, Global};
 
@@ -20,9 +17,9 @@ pub const LIMIT: usize = 16_777_216;
 /// The text of an input.
 #[derive(Drop)]
 pub enum Text {
-    /// The bytes, and their tokens.
-    Lexed { bytes: Vec<u8>, tokens: Vec<Token> },
-    /// The line of the refusal of bytes that are too many, or have no tokens.
+    /// Its bytes, which are no more than an input may have.
+    Bytes(Vec<u8>),
+    /// The line of the refusal of bytes that are too many.
     Refused(Vec<u8>),
 }
 
@@ -38,7 +35,7 @@ pub fn take_text<S: Source>(alloc: Global, source: &mut S) -> Result<Text, Stop>
     ensures reads { S.reads source.new ≤ S.reads source.old + limit + 2 }
 {
     match take_all(alloc, source, LIMIT) {
-        Ok(bytes) => text_of(alloc, bytes),
+        Ok(bytes) => Ok(Text::Bytes(bytes)),
         Err(Taken::TooLong) => too_long(alloc),
         Err(Taken::ReadFault) => Err(Stop::ReadFault),
         Err(Taken::NoMemory) => Err(Stop::NoMemory),
@@ -69,30 +66,4 @@ fn too_long(alloc: Global) -> Result<Text, Stop>
 {
     let (_, line) = refuse_too_many(alloc)?;
     Ok(Text::Refused(line))
-}
-
-/// The text of these bytes.
-fn text_of(alloc: Global, bytes: Vec<u8>) -> Result<Text, Stop>
-    requires { length bytes.items ≤ 16_777_216 }
-    ensures text { IfOk result (λ text. IsText text) }
-    ensures gives { IfOk result (λ text. GivesText bytes.items text) }
-    ensures err { OnErr result (result ≡ Err Stop.NoMemory) }
-{
-    match lex(alloc, &bytes) {
-        Ok(tokens) => Ok(Text::Lexed { bytes, tokens }),
-        Err(fault) => match unlexed(alloc, &bytes, fault) {
-            Unread::Refused(r) => Ok(Text::Refused(lexical_line(alloc, &bytes, &r)?)),
-            Unread::NoMemory => Err(Stop::NoMemory),
-        },
-    }
-}
-
-/// The line of bytes that have no tokens.
-fn lexical_line(alloc: Global, bytes: &[u8], r: &Refusal) -> Result<Vec<u8>, Stop>
-    requires sized { length bytes.now ≤ 16_777_216 }
-    requires refuses { IsUnlexed bytes.now r.now.number r.now.offset r.now.shown.items }
-    ensures ok { IfOk result (λ line. IsLineOf bytes.now (IsUnlexed bytes.now) line.items) }
-    ensures err { OnErr result (result ≡ Err Stop.NoMemory) }
-{
-    Ok(refusal_line(alloc, bytes, r)?)
 }

@@ -5,7 +5,7 @@ ghost use Rattle.spi_gen.specs.Sessions.{AreBeside, AreGrouped, IsSessions};
 
 use crate::NoMemory;
 use crate::parts::{NOWHERE, declarations, handshake};
-use spi_tree::{SProc, Tree};
+use spi_tree::{BothParts, SProc, Tree};
 use std::alloc::Global;
 
 // So many sessions in the place of a part, where several are in parentheses, or in the place of a process.
@@ -19,13 +19,14 @@ fn beside(alloc: Global, n: u32, in_part: bool) -> Result<SProc, NoMemory>
         return handshake(alloc);
     }
     let half = (n + 1) / 2;
-    let first = Box::new(alloc, beside(alloc, half, true)?)?;
-    let rest = Box::new(alloc, beside(alloc, n - half, true)?)?;
+    let first = beside(alloc, half, true)?;
+    let rest = beside(alloc, n - half, true)?;
+    let parts = Box::new(alloc, BothParts { first, rest })?;
     let span = NOWHERE;
     if in_part {
-        Ok(SProc::Group { first, rest, span })
+        Ok(SProc::Group { parts, span })
     } else {
-        Ok(SProc::Par { first, rest, span })
+        Ok(SProc::Par { parts, span })
     }
 }
 

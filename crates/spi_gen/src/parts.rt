@@ -6,7 +6,11 @@ ghost use Rattle.spi_gen.specs.Handshake as H;
 
 use crate::NoMemory;
 use spi_text::{Span, Text};
-use spi_tree::{Decl, Last, More, MsgParts, SAtom, SMsg, SProc, STy, SWord, TyParts};
+use spi_tree::{
+    BothParts, CastParts, CheckParts, Decl, DecryptParts, EventParts, InpParts, Last, More,
+    MsgParts, NewParts, OutParts, OutThenParts, SAtom, SMsg, SProc, STy, SWord, SplitParts,
+    TyParts,
+};
 use std::alloc::Global;
 
 /// The empty span at 0: what is made here stands nowhere in a text.
@@ -116,10 +120,13 @@ fn new_name(alloc: Global, spelling: &str, ty: STy, then: SProc) -> Result<SProc
     ensures { IfOk result
         (λ p. proc_of p ≡ t.new t.nowhere (H.word spelling.now) (ty_of ty) (proc_of then)) }
 {
-    Ok(SProc::New {
+    let parts = NewParts {
         name: word(alloc, spelling)?,
         ty,
-        then: Box::new(alloc, then)?,
+        then,
+    };
+    Ok(SProc::New {
+        parts: Box::new(alloc, parts)?,
         span: NOWHERE,
     })
 }
@@ -129,11 +136,14 @@ fn input(alloc: Global, spelling: &str, then: SProc) -> Result<SProc, NoMemory>
     ensures { IfOk result
         (λ p. proc_of p ≡ t.inp t.nowhere H.net (H.word spelling.now) H.untrusted_type (proc_of then)) }
 {
-    Ok(SProc::Inp {
+    let parts = InpParts {
         channel: name(alloc, "net")?,
         name: word(alloc, spelling)?,
         ty: untrusted(),
-        then: Box::new(alloc, then)?,
+        then,
+    };
+    Ok(SProc::Inp {
+        parts: Box::new(alloc, parts)?,
         span: NOWHERE,
     })
 }
@@ -147,13 +157,16 @@ fn reply(alloc: Global) -> Result<SProc, NoMemory>
 {
     let body = Box::new(alloc, pair(alloc, "m", "p")?)?;
     let key = Box::new(alloc, name(alloc, "k")?)?;
-    Ok(SProc::Out {
+    let parts = OutParts {
         channel: name(alloc, "net")?,
         datum: SMsg::Enc {
             body,
             key,
             span: NOWHERE,
         },
+    };
+    Ok(SProc::Out {
+        parts: Box::new(alloc, parts)?,
         span: NOWHERE,
     })
 }
@@ -161,16 +174,22 @@ fn reply(alloc: Global) -> Result<SProc, NoMemory>
 fn answering(alloc: Global) -> Result<SProc, NoMemory>
     ensures { IfOk result (λ p. proc_of p ≡ H.answering) }
 {
-    let cast = SProc::Cast {
+    let parts = CastParts {
         whole: name(alloc, "q")?,
         name: word(alloc, "p")?,
         ty: proof(alloc)?,
-        then: Box::new(alloc, reply(alloc)?)?,
+        then: reply(alloc)?,
+    };
+    let cast = SProc::Cast {
+        parts: Box::new(alloc, parts)?,
         span: NOWHERE,
     };
-    let begin = SProc::Begin {
+    let parts = EventParts {
         label: label(alloc)?,
-        then: Box::new(alloc, cast)?,
+        then: cast,
+    };
+    let begin = SProc::Begin {
+        parts: Box::new(alloc, parts)?,
         span: NOWHERE,
     };
     let new = new_name(alloc, "m", untrusted(), begin)?;
@@ -180,25 +199,33 @@ fn answering(alloc: Global) -> Result<SProc, NoMemory>
 fn checking(alloc: Global) -> Result<SProc, NoMemory>
     ensures { IfOk result (λ p. proc_of p ≡ H.checking) }
 {
-    let stop = SProc::Stop { span: NOWHERE };
-    let end = SProc::End {
+    let parts = EventParts {
         label: label(alloc)?,
-        then: Box::new(alloc, stop)?,
+        then: SProc::Stop { span: NOWHERE },
+    };
+    let end = SProc::End {
+        parts: Box::new(alloc, parts)?,
         span: NOWHERE,
     };
-    let check = SProc::Check {
+    let parts = CheckParts {
         whole: name(alloc, "n")?,
         nonce: name(alloc, "p")?,
-        then: Box::new(alloc, end)?,
+        then: end,
+    };
+    let check = SProc::Check {
+        parts: Box::new(alloc, parts)?,
         span: NOWHERE,
     };
-    Ok(SProc::Split {
+    let parts = SplitParts {
         whole: name(alloc, "x")?,
         left: word(alloc, "m")?,
         left_ty: untrusted(),
         right: word(alloc, "p")?,
         right_ty: proof(alloc)?,
-        then: Box::new(alloc, check)?,
+        then: check,
+    };
+    Ok(SProc::Split {
+        parts: Box::new(alloc, parts)?,
         span: NOWHERE,
     })
 }
@@ -206,19 +233,24 @@ fn checking(alloc: Global) -> Result<SProc, NoMemory>
 fn asking(alloc: Global) -> Result<SProc, NoMemory>
     ensures { IfOk result (λ p. proc_of p ≡ H.asking) }
 {
-    let decrypt = SProc::Decrypt {
+    let parts = DecryptParts {
         whole: name(alloc, "c")?,
         name: word(alloc, "x")?,
         ty: answer_name(alloc)?,
         key: name(alloc, "k")?,
-        then: Box::new(alloc, checking(alloc)?)?,
+        then: checking(alloc)?,
+    };
+    let decrypt = SProc::Decrypt {
+        parts: Box::new(alloc, parts)?,
         span: NOWHERE,
     };
-    let inp = input(alloc, "c", decrypt)?;
-    let out = SProc::OutThen {
+    let parts = OutThenParts {
         channel: name(alloc, "net")?,
         datum: name(alloc, "n")?,
-        then: Box::new(alloc, inp)?,
+        then: input(alloc, "c", decrypt)?,
+    };
+    let out = SProc::OutThen {
+        parts: Box::new(alloc, parts)?,
         span: NOWHERE,
     };
     new_name(alloc, "n", untrusted(), out)
@@ -228,9 +260,12 @@ fn asking(alloc: Global) -> Result<SProc, NoMemory>
 pub fn handshake(alloc: Global) -> Result<SProc, NoMemory>
     ensures { IfOk result (λ p. proc_of p ≡ H.handshake) }
 {
+    let parts = BothParts {
+        first: answering(alloc)?,
+        rest: asking(alloc)?,
+    };
     let group = SProc::Group {
-        first: Box::new(alloc, answering(alloc)?)?,
-        rest: Box::new(alloc, asking(alloc)?)?,
+        parts: Box::new(alloc, parts)?,
         span: NOWHERE,
     };
     let key = STy::Key {

@@ -1,4 +1,6 @@
 pub mod Readers
+pub mod Pasts
+pub mod Short
 pub mod Fronts
 pub mod Spell
 pub mod Sound
@@ -15,6 +17,7 @@ pub mod ExactLaws
 pub mod Words
 pub mod Wholes
 pub mod Numbered
+pub mod Lasts
 pub mod Filled
 pub mod OneTree
 pub mod Lists

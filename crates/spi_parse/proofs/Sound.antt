@@ -4,6 +4,7 @@ use Rattle.spi_text.specs.declared.lines.Span.{Span}
 use Rattle.spi_parse.specs.declared.fault.Fault.{Fault}
 use Rattle.spi_lex.specs.declared.token.Kind.{Kind}
 use Rattle.spi_lex.specs.declared.token.Token.{Token}
+use Rattle.spi_lex.specs.Left.{end_of}
 use Rattle.spi_parse.specs.Tokens.{Tok, State}
 use Rattle.spi_parse.specs.Table.{Sym, Tree, Trees, TableMove, eat, look, may_look, fail, stay, skip, deep_here, delta, at_end}
 use Rattle.spi_parse.specs.Reading.{◌>>=◌, Out, Reader, limited, pass, may_pass, read_all, go_on, or_end, reads_step, read_within, read}
@@ -34,9 +35,10 @@ pub record Lays (e : ℕ) (ps : List Piece) (ts : List Tok) (e' : ℕ) (ps' : Li
   pub split : ts ≡ pre ++ ts'
   pub cells_are : cells ps ≡ plain_tokens pre ++ cells ps'
   pub lies : (left : List Tok) → Lies left e' ps' ts' → Lies left e ps ts
+  pub ends : end_of e (map untok ts) ≡ end_of e' (map untok ts')
 
 pub lays_here : (e : ℕ) (ps : List Piece) (ts : List Tok) → Lays e ps ts e ps ts
-lays_here e ps ts = record { pre = []; split = refl; cells_are = refl; lies = λ left h. h }
+lays_here e ps ts = record { pre = []; split = refl; cells_are = refl; lies = λ left h. h; ends = refl }
 
 pub lays_on : (e e' e'' : ℕ) (ps ps' ps'' : List Piece) (ts ts' ts'' : List Tok) → Lays e ps ts e' ps' ts' → Lays e' ps' ts' e'' ps'' ts'' → Lays e ps ts e'' ps'' ts''
 lays_on e e' e'' ps ps' ps'' ts ts' ts'' a b = record {
@@ -44,13 +46,14 @@ lays_on e e' e'' ps ps' ps'' ts ts' ts'' a b = record {
   split = a.split ∙ ap (λ (l : List Tok). a.pre ++ l) b.split ∙ sym (append_assoc a.pre b.pre ts'');
   cells_are = a.cells_are ∙ ap (λ (l : List (Kind × Bool)). plain_tokens a.pre ++ l) b.cells_are ∙ sym (plain_append a.pre b.pre (cells ps''));
   lies = λ left h. a.lies left (b.lies left h);
+  ends = a.ends ∙ b.ends;
 }
 
 pub lays_open : (e : ℕ) (ps : List Piece) (t : Tok) (ts : List Tok) → Lays e (opens t.span.from ∷ ps) (t ∷ ts) e ps (t ∷ ts)
-lays_open e ps t ts = record { pre = []; split = refl; cells_are = refl; lies = λ left h. (refl, h) }
+lays_open e ps t ts = record { pre = []; split = refl; cells_are = refl; lies = λ left h. (refl, h); ends = refl }
 
 pub lays_cell : (e : ℕ) (deep : Bool) (ps : List Piece) (t : Tok) (ts : List Tok) → deep ≡ false → Lays e (cell t.kind deep ∷ ps) (t ∷ ts) t.span.to ps ts
-lays_cell e deep ps t ts d = record { pre = t ∷ []; split = refl; cells_are = ap (λ (b : Bool). (t.kind, b) ∷ cells ps) d; lies = λ left h. (refl, d, h) }
+lays_cell e deep ps t ts d = record { pre = t ∷ []; split = refl; cells_are = ap (λ (b : Bool). (t.kind, b) ∷ cells ps) d; lies = λ left h. (refl, d, h); ends = refl }
 
 abbrev pub FrontOfMove : Type 0
 FrontOfMove = List Piece → List Piece
@@ -120,14 +123,14 @@ starts_more left (suc o) e0 ts0 from ps go h = go (opened_front o from ps) (star
 pub eaten_opened : (o : ℕ) (e0 : ℕ) (ts0 : List Tok) (from : ℕ) (fr : FrontOfMove) (e : ℕ) (ts : List Tok) → Eaten e0 ts0 from fr e ts → (q : List Piece) → Lays e0 (opened_front o from (fr q)) ts0 e q ts
 eaten_opened o e0 ts0 from fr e ts a q =
     let l = a.lays q in
-    record { pre = l.pre; split = l.split; cells_are = cells_opened o from (fr q) ∙ l.cells_are; lies = λ left h. starts_more left o e0 ts0 from (fr q) (a.starts left) (l.lies left h) }
+    record { pre = l.pre; split = l.split; cells_are = cells_opened o from (fr q) ∙ l.cells_are; lies = λ left h. starts_more left o e0 ts0 from (fr q) (a.starts left) (l.lies left h); ends = l.ends }
 
 closes_more : (left : List Tok) (c : ℕ) (e : ℕ) (ps : List Piece) (ts : List Tok) → Lies left e ps ts → Lies left e (closed c e ps) ts
 closes_more left zero e ps ts h = h
 closes_more left (suc c) e ps ts h = (refl, closes_more left c e ps ts h)
 
 pub lays_closed : (c : ℕ) (e : ℕ) (ps : List Piece) (ts : List Tok) → Lays e (closed c e ps) ts e ps ts
-lays_closed c e ps ts = record { pre = []; split = refl; cells_are = cells_closed c e ps; lies = λ left h. closes_more left c e ps ts h }
+lays_closed c e ps ts = record { pre = []; split = refl; cells_are = cells_closed c e ps; lies = λ left h. closes_more left c e ps ts h; ends = refl }
 
 -- a token that is eaten, with a word's end or none
 pub lays_token : (w e : ℕ) (deep : Bool) (q : List Piece) (t : Tok) (ts : List Tok) → deep ≡ false → Lays e (cell t.kind deep ∷ closed w t.span.to q) (t ∷ ts) t.span.to q ts

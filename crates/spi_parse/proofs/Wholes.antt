@@ -33,7 +33,7 @@ pub kinds_tok : (ts : List Token) → kinds_read (map tok ts) ≡ kinds_of ts
 kinds_tok [] = refl
 kinds_tok (t ∷ ts) = ap (λ (l : List Kind). t.kind ∷ l) (kinds_tok ts)
 
-untok_tok : (ts : List Token) → map untok (map tok ts) ≡ ts
+pub untok_tok : (ts : List Token) → map untok (map tok ts) ≡ ts
 untok_tok [] = refl
 untok_tok (t ∷ ts) = ap (λ (l : List Token). t ∷ l) (untok_tok ts)
 

@@ -1,6 +1,5 @@
 -- What stands between the table and the code where a form ends.
 use Rattle.std.specs.Prelude.{Bool, ℕ, List, [], ◌∷◌, Option, Some, None, Ok}
-use Rattle.std.specs.Global.{Box}
 use Rattle.spi_text.specs.declared.lines.Span.{Span}
 use Rattle.spi_lex.specs.declared.token.Mark.TheVariants as mark
 use Rattle.spi_tree.specs.declared.tree.SProc.{SProc}
@@ -15,10 +14,10 @@ use Rattle.spi_parse.specs.Places.{parts}
 abbrev pub done : {X : Type 0} → X → State → Out X
 done x s = Ok (x, s)
 
--- a process in a box, where one stands
-abbrev pub boxed_option : Option (Box SProc) → Option t.Proc
-boxed_option None = None
-boxed_option (Some p) = Some (proc_of p.value)
+-- a process, where one stands
+abbrev pub proc_option : Option SProc → Option t.Proc
+proc_option None = None
+proc_option (Some p) = Some (proc_of p)
 
 abbrev pub numeral_form : (v : Bool) (d : Bool) (n : ℕ) → List Span → State → Out t.Msg
 numeral_form v d n = parts (msg v d n) (the_number ∷ []) (λ ss to xs. t.num (over ss to) xs.0)

@@ -4,6 +4,7 @@ pub mod Bare
 pub mod Forms
 pub mod Table
 pub mod Tokens
+pub mod Seen
 pub mod Reading
 pub mod Exact
 pub mod Faults
@@ -12,3 +13,4 @@ pub mod FormMoves
 pub mod Shapes
 pub mod Wholes
 pub mod Ends
+pub mod Bytes

@@ -1,6 +1,7 @@
 -- What a cursor is as a state, and what stands between the table and the code.
-use Rattle.std.specs.Prelude.{Bool, ℕ, ◌+◌, List, [], ◌∷◌, map, Result, Ok, Err}
+use Rattle.std.specs.Prelude.{Bool, false, ℕ, ◌+◌, List, [], ◌∷◌, map, Option, Some, None, Result, Ok, Err}
 use Rattle.std.specs.Global.{Box}
+use denote.Ref.{Bor}
 use Rattle.spi_text.specs.declared.lines.Span.{Span}
 use Rattle.spi_lex.specs.declared.token.Kind.TheVariants as K
 use Rattle.spi_lex.specs.declared.token.Reserved.TheVariants as word
@@ -9,7 +10,6 @@ use Rattle.spi_tree.specs.declared.tree.STy.{STy}
 use Rattle.spi_tree.specs.declared.tree.SWord.{SWord}
 use Rattle.spi_tree.specs.Trees as t
 use Rattle.spi_tree.specs.Views.{ty_of, field_of, last_of}
-use Rattle.spi_parse.specs.declared.cursor.Cursor.{Cursor}
 use Rattle.spi_parse.specs.declared.types.FieldOrLast.{FieldOrLast}
 use Rattle.spi_parse.specs.declared.types.FieldOrLast.TheVariants as items
 use Rattle.spi_parse.specs.declared.forms.Form.TheVariants as forms
@@ -19,28 +19,48 @@ use Rattle.spi_parse.specs.declared.forms.Event.TheVariants as events
 use Rattle.spi_parse.specs.declared.forms.Plain.TheVariants as plains
 use Rattle.spi_parse.specs.declared.fault.Fault.TheVariants.{Syntax}
 use Rattle.spi_parse.specs.declared.fault.Stop.{Stop}
-use Rattle.spi_parse.specs.Tokens.{State, tok}
+use Rattle.spi_parse.specs.Tokens.{Tok, State, tok}
+use Rattle.spi_lex.specs.declared.token.Token.{Token}
+use Rattle.spi_lex.specs.declared.reader.Words.{Words}
+use Rattle.spi_lex.specs.Reader.{seen_kind, tokens_from, tokens_behind}
+use Rattle.spi_parse.specs.declared.cursor.Reader.{Reader}
 use Rattle.spi_parse.specs.Table.{ListItem, one, last, Sym, the_mark, msg, msgs, atom, atoms, effect, ty, seq, Tree, Build, TableMove, eat, stay, over, delta, delta_ty_word, form_move}
 use Rattle.spi_parse.specs.Reading.{◌>>=◌, Gives, Out, read, limited, read_all}
 
-abbrev pub state_of : Cursor → State
-state_of c = record { end = c.end; rest = map tok c.rest.now }
+-- the tokens behind the next one
+abbrev pub behind_next : Option (Bor (List Token)) → Words → List Token
+behind_next None words = tokens_behind words
+behind_next (Some tokens) words = tokens.now
 
--- what a function returned is what reading gives, unless memory ran out: a part by its view, with the place behind it
-abbrev pub GivesPart : {X Y : Type 0} → (X → Y) → Result (X × Cursor) Stop → Out Y → Type 0
-GivesPart view result answer = Gives (λ x. (view x.0, state_of x.1)) result answer
+abbrev pub behind : Reader → List Tok
+behind r = map tok (behind_next r.list r.words)
+
+-- the tokens that are left, the next one first
+abbrev pub tokens_in : Reader → List Token
+tokens_in r = tokens_from (seen_kind r.words.kind) (record { from = r.words.from; to = r.words.to }) (behind_next r.list r.words)
+
+abbrev pub state_of : Reader → State
+state_of r = record { end = r.end; rest = map tok (tokens_in r) }
+
+-- the state behind the next token
+abbrev pub past : State → List Tok → State
+past s rest = elim (s.rest) [ [] ↦ s | t ∷ ts ↦ record { end = t.span.to; rest = rest } ]
+
+-- what a function returned is what reading gives, unless memory ran out: a part by its view, with the state behind it
+abbrev pub GivesPart : {X Y : Type 0} → (X → Y) → Result X Stop → State → Out Y → Type 0
+GivesPart view result after answer = Gives (λ x. (view x, after)) result answer
 
 -- the same of a part in a box
-abbrev pub GivesBox : {X Y : Type 0} → (X → Y) → Result (Box X × Cursor) Stop → Out Y → Type 0
-GivesBox view result answer = Gives (λ x. (view x.0.value, state_of x.1)) result answer
+abbrev pub GivesBox : {X Y : Type 0} → (X → Y) → Result (Box X) Stop → State → Out Y → Type 0
+GivesBox view result after answer = Gives (λ x. (view x.value, after)) result answer
 
 -- the same of a name with its type
-abbrev pub GivesName : Result (SWord × STy × Cursor) Stop → Out (SWord × t.Ty) → Type 0
-GivesName result answer = Gives (λ x. ((x.0, ty_of x.1), state_of x.2)) result answer
+abbrev pub GivesName : Result (SWord × STy) Stop → State → Out (SWord × t.Ty) → Type 0
+GivesName result after answer = Gives (λ x. ((x.0, ty_of x.1), after)) result answer
 
 -- the same of the place alone
-abbrev pub GivesPlace : Result Cursor Stop → Out (Unit {0}) → Type 0
-GivesPlace result answer = Gives (λ x. (tt, state_of x)) result answer
+abbrev pub GivesPlace : Result (Unit {0}) Stop → State → Out (Unit {0}) → Type 0
+GivesPlace result after answer = Gives (λ x. (tt, after)) result answer
 
 abbrev pub field_item : FieldOrLast → ListItem t.Field t.Last
 field_item (items.Field f) = one (field_of f)

@@ -3,7 +3,8 @@
 ghost use Rattle.spi_parse.specs.Places.{state_of, GivesBox};
 ghost use Rattle.spi_parse.specs.Ends.{done};
 
-use crate::cursor::{Cursor, Read};
+use crate::cursor::Reader;
+use crate::fault::Stop;
 use std::alloc::Global;
 
 /// A part of a tree.
@@ -17,11 +18,11 @@ pub trait TreePart: Drop {
 
 /// The part as a box, with the place behind it.
 ///
-/// What reads a process, a ciphertext or a sum holds its part as a box while it reads the next, so that deep trees fit the
-/// stack. The parts of a tuple are small, and wait as values.
+/// What reads a ciphertext or a sum holds its part as a box while it reads the next, so that deep trees fit the stack. The
+/// parts of a tuple are small, and wait as values, as a process does, whose own parts lie in a box.
 #[inline(always)]
-pub fn boxed<T: TreePart>(alloc: Global, tree: T, at: Cursor<'_>) -> Read<'_, Box<T>>
-    ensures { GivesBox T.view result (done (T.view tree) (state_of at.entry)) }
+pub fn boxed<T: TreePart>(alloc: Global, tree: T, at: &Reader<'_>) -> Result<Box<T>, Stop>
+    ensures { GivesBox T.view result (state_of at.now) (done (T.view tree) (state_of at.now)) }
 {
-    Ok((Box::new(alloc, tree)?, at))
+    Ok(Box::new(alloc, tree)?)
 }

@@ -12,17 +12,18 @@ ghost use Rattle.spi_parse.specs.Shapes.{is_sub, is_rule, by_arity, IsTreeShape}
 ghost use Rattle.spi_parse.specs.Table.{deriv, word_at, over};
 ghost use Rattle.spi_parse.specs.Reading.{read, limited};
 
-use crate::cursor::{Cursor, DERIVATION_LIMIT, Read, accept, fits, placed_word, span_from, syntax};
+use crate::cursor::{DERIVATION_LIMIT, Reader, accept, fits, placed_word, span_from, syntax};
 use crate::effects::effect;
+use crate::fault::Stop;
 use crate::messages::Node;
-use spi_lex::Kind;
+use crate::seen::Seen;
 use spi_rules::Rule;
-use spi_text::{Span, Text};
+use spi_text::Span;
 use spi_tree::{SAtom, SDeriv, SWord};
 use std::alloc::Global;
 
 /// A use of a rule, with the place behind it.
-type Part<'t> = Read<'t, SDeriv>;
+type Part = Result<SDeriv, Stop>;
 
 /// What stands behind the word of a rule.
 #[derive(Clone, Copy)]
@@ -119,136 +120,145 @@ fn make_use(rule: SWord, effect: Option<Vec<SAtom>>, premises: Vec<SDeriv>, span
 /// derivations fit the stack.
 #[cycle(derivations)]
 #[inline(always)]
-pub fn derivation(alloc: Global, at: Cursor<'_>, later: bool, nesting: u32) -> Part<'_>
+pub fn derivation(alloc: Global, at: &mut Reader<'_>, later: bool, nesting: u32) -> Part
     requires { nesting ≤ 1001 }
-    ensures { GivesPart deriv_of result (read limited (deriv later nesting) (state_of at.entry)) }
+    ensures { GivesPart deriv_of result (state_of at.new) (read limited (deriv later nesting) (state_of at.old)) }
 {
-    let [first, rest @ ..] = at.rest else {
-        return Err(syntax(0));
+    let first = at.first()?;
+    let Seen::Word(word) = first.kind else {
+        return Err(syntax(at));
     };
-    let next = Cursor {
-        rest,
-        end: first.span.to,
-    };
-    let Kind::Word(word) = &first.kind else {
-        return Err(syntax(at.rest.len()));
-    };
-    let shape = shape_of(later, word.as_str());
-    accept(is_rule(shape), at.rest.len())?;
-    fits(nesting, DERIVATION_LIMIT, at.rest.len())?;
+    let shape = shape_of(later, word);
+    accept(is_rule(shape), at)?;
+    fits(nesting, DERIVATION_LIMIT, at)?;
     match shape {
-        Shape::NoRule => Err(syntax(at.rest.len())),
-        Shape::Leaf => end_use(alloc, word, first.span, None, Vec::new(alloc), next),
-        Shape::One => read_one(alloc, word, first.span, next, later, nesting),
-        Shape::Two => read_two(alloc, word, first.span, next, later, nesting),
-        Shape::Three => read_three(alloc, word, first.span, next, later, nesting),
-        Shape::Sub => read_sub(alloc, word, first.span, next, later, nesting),
+        Shape::NoRule => Err(syntax(at)),
+        Shape::Leaf => {
+            at.advance();
+            end_use(alloc, word, first.span, None, Vec::new(alloc), at)
+        }
+        Shape::One => {
+            at.advance();
+            read_one(alloc, word, first.span, at, later, nesting)
+        }
+        Shape::Two => {
+            at.advance();
+            read_two(alloc, word, first.span, at, later, nesting)
+        }
+        Shape::Three => {
+            at.advance();
+            read_three(alloc, word, first.span, at, later, nesting)
+        }
+        Shape::Sub => {
+            at.advance();
+            read_sub(alloc, word, first.span, at, later, nesting)
+        }
     }
 }
 
 #[cycle(derivations)]
-fn read_one<'t>(
+fn read_one(
     alloc: Global,
-    word: &Text,
+    word: &str,
     place: Span,
-    at: Cursor<'t>,
+    at: &mut Reader<'_>,
     later: bool,
     nesting: u32,
-) -> Part<'t>
+) -> Part
     requires { nesting ≤ 1000 }
-    ensures { GivesPart deriv_of result
-        (one_form later nesting word.now (place ∷ []) (state_of at.entry)) }
+    ensures { GivesPart deriv_of result (state_of at.new)
+        (one_form later nesting word.now (place ∷ []) (state_of at.old)) }
 {
     let mut premises = Vec::with_capacity(alloc, 1)?;
-    let (first, at) = derivation(alloc, at, later, nesting + 1)?;
+    let first = derivation(alloc, at, later, nesting + 1)?;
     premises.push(first)?;
     end_use(alloc, word, place, None, premises, at)
 }
 
 #[cycle(derivations)]
-fn read_two<'t>(
+fn read_two(
     alloc: Global,
-    word: &Text,
+    word: &str,
     place: Span,
-    at: Cursor<'t>,
+    at: &mut Reader<'_>,
     later: bool,
     nesting: u32,
-) -> Part<'t>
+) -> Part
     requires { nesting ≤ 1000 }
-    ensures { GivesPart deriv_of result
-        (two_form later nesting word.now (place ∷ []) (state_of at.entry)) }
+    ensures { GivesPart deriv_of result (state_of at.new)
+        (two_form later nesting word.now (place ∷ []) (state_of at.old)) }
 {
     let mut premises = Vec::with_capacity(alloc, 2)?;
-    let (first, at) = derivation(alloc, at, later, nesting + 1)?;
+    let first = derivation(alloc, at, later, nesting + 1)?;
     premises.push(first)?;
-    let (second, at) = derivation(alloc, at, later, nesting + 1)?;
+    let second = derivation(alloc, at, later, nesting + 1)?;
     premises.push(second)?;
     end_use(alloc, word, place, None, premises, at)
 }
 
 #[cycle(derivations)]
-fn read_three<'t>(
+fn read_three(
     alloc: Global,
-    word: &Text,
+    word: &str,
     place: Span,
-    at: Cursor<'t>,
+    at: &mut Reader<'_>,
     later: bool,
     nesting: u32,
-) -> Part<'t>
+) -> Part
     requires { nesting ≤ 1000 }
-    ensures { GivesPart deriv_of result
-        (three_form later nesting word.now (place ∷ []) (state_of at.entry)) }
+    ensures { GivesPart deriv_of result (state_of at.new)
+        (three_form later nesting word.now (place ∷ []) (state_of at.old)) }
 {
     let mut premises = Vec::with_capacity(alloc, 3)?;
-    let (first, at) = derivation(alloc, at, later, nesting + 1)?;
+    let first = derivation(alloc, at, later, nesting + 1)?;
     premises.push(first)?;
-    let (second, at) = derivation(alloc, at, later, nesting + 1)?;
+    let second = derivation(alloc, at, later, nesting + 1)?;
     premises.push(second)?;
-    let (third, at) = derivation(alloc, at, later, nesting + 1)?;
+    let third = derivation(alloc, at, later, nesting + 1)?;
     premises.push(third)?;
     end_use(alloc, word, place, None, premises, at)
 }
 
 #[cycle(derivations)]
-fn read_sub<'t>(
+fn read_sub(
     alloc: Global,
-    word: &Text,
+    word: &str,
     place: Span,
-    at: Cursor<'t>,
+    at: &mut Reader<'_>,
     later: bool,
     nesting: u32,
-) -> Part<'t>
+) -> Part
     requires { nesting ≤ 1000 }
-    ensures { GivesPart deriv_of result
-        (sub_form later nesting word.now (place ∷ []) (state_of at.entry)) }
+    ensures { GivesPart deriv_of result (state_of at.new)
+        (sub_form later nesting word.now (place ∷ []) (state_of at.old)) }
 {
     let atoms = Node {
         later,
         numbered: true,
         nesting: 0,
     };
-    let (effect, at) = effect(alloc, at, atoms)?;
+    let effect = effect(alloc, at, atoms)?;
     let mut premises = Vec::with_capacity(alloc, 1)?;
-    let (first, at) = derivation(alloc, at, later, nesting + 1)?;
+    let first = derivation(alloc, at, later, nesting + 1)?;
     premises.push(first)?;
     end_use(alloc, word, place, Some(effect), premises, at)
 }
 
 /// The use of a rule with these premises, which ends before this place.
 #[inline(always)]
-fn end_use<'t>(
+fn end_use(
     alloc: Global,
-    word: &Text,
+    word: &str,
     place: Span,
     effect: Option<Vec<SAtom>>,
     premises: Vec<SDeriv>,
-    at: Cursor<'t>,
-) -> Part<'t>
-    ensures { GivesPart deriv_of result
-        (done (trees.rule (over (place ∷ []) at.entry.end) (word_at word.now place) (tree_effect effect)
-        (derivs_of_list (map deriv_of premises.items))) (state_of at.entry)) }
+    at: &mut Reader<'_>,
+) -> Part
+    ensures { GivesPart deriv_of result (state_of at.new)
+        (done (trees.rule (over (place ∷ []) (state_of at.old).end) (word_at word.now place) (tree_effect effect)
+        (derivs_of_list (map deriv_of premises.items))) (state_of at.old)) }
 {
     let rule = placed_word(alloc, word, place)?;
     let span = span_from(place, at);
-    Ok((make_use(rule, effect, premises, span), at))
+    Ok(make_use(rule, effect, premises, span))
 }

@@ -7,121 +7,134 @@ ghost use Rattle.spi_parse.specs.Table.{atom, atoms, atoms_item, effect, delta_b
 ghost use Rattle.spi_parse.specs.Reading.{read, limited, behind_move, item_of};
 
 use crate::NoMemory;
-use crate::cursor::{Cursor, MESSAGE_LIMIT, Read, accept, fits, next_token, span_from, syntax};
+use crate::cursor::{MESSAGE_LIMIT, Reader, accept, fits, span_from, syntax};
+use crate::fault::Stop;
 use crate::messages::{Node, any_message, message_of};
-use spi_lex::{Kind, Mark, Reserved};
+use crate::seen::Seen;
+use spi_lex::{Mark, Reserved};
 use spi_text::Span;
 use spi_tree::SAtom;
 use std::alloc::Global;
 
-fn atom(alloc: Global, at: Cursor<'_>, node: Node) -> Read<'_, SAtom>
+fn atom(alloc: Global, at: &mut Reader<'_>, node: Node) -> Result<SAtom, Stop>
     requires { node.nesting ≤ 1001 }
-    ensures { GivesPart atom_of result
-        (read limited (atom node.later node.numbered node.nesting) (state_of at.entry)) }
+    ensures { GivesPart atom_of result (state_of at.new)
+        (read limited (atom node.later node.numbered node.nesting) (state_of at.old)) }
 {
-    let (first, next) = next_token(at)?;
+    let first = at.first()?;
     let inner = Node {
         nesting: node.nesting + 1,
         ..node
     };
     match first.kind {
-        Kind::Reserved(Reserved::End) => {
-            fits(node.nesting, MESSAGE_LIMIT, at.rest.len())?;
-            let (label, at) = message_of(alloc, next, inner)?;
+        Seen::Reserved(Reserved::End) => {
+            fits(node.nesting, MESSAGE_LIMIT, at)?;
+            at.advance();
+            let label = message_of(alloc, at, inner)?;
             let span = span_from(first.span, at);
-            Ok((SAtom::End { label, span }, at))
+            Ok(SAtom::End { label, span })
         }
-        Kind::Reserved(Reserved::Check) => {
-            fits(node.nesting, MESSAGE_LIMIT, at.rest.len())?;
-            let (nonce, at) = message_of(alloc, next, inner)?;
+        Seen::Reserved(Reserved::Check) => {
+            fits(node.nesting, MESSAGE_LIMIT, at)?;
+            at.advance();
+            let nonce = message_of(alloc, at, inner)?;
             let span = span_from(first.span, at);
-            Ok((SAtom::Check { nonce, span }, at))
+            Ok(SAtom::Check { nonce, span })
         }
-        Kind::Reserved(Reserved::Many) => {
-            accept(node.later, at.rest.len())?;
-            fits(node.nesting, MESSAGE_LIMIT, at.rest.len())?;
-            let (label, at) = any_message(alloc, next, inner)?;
+        Seen::Reserved(Reserved::Many) => {
+            accept(node.later, at)?;
+            fits(node.nesting, MESSAGE_LIMIT, at)?;
+            at.advance();
+            let label = any_message(alloc, at, inner)?;
             let span = span_from(first.span, at);
-            Ok((SAtom::Many { label, span }, at))
+            Ok(SAtom::Many { label, span })
         }
-        _ => Err(syntax(at.rest.len())),
+        _ => Err(syntax(at)),
     }
 }
 
-fn next_atom(alloc: Global, at: Cursor<'_>, node: Node) -> Read<'_, Option<SAtom>>
+fn next_atom(alloc: Global, at: &mut Reader<'_>, node: Node) -> Result<Option<SAtom>, Stop>
     requires { node.nesting ≤ 1001 }
-    ensures { GivesPart (item_of atom_of tt) result
-        (read limited (atoms_item node.later node.numbered node.nesting) (state_of at.entry)) }
+    ensures { GivesPart (item_of atom_of tt) result (state_of at.new)
+        (read limited (atoms_item node.later node.numbered node.nesting) (state_of at.old)) }
 {
-    let (first, next) = next_token(at)?;
+    let first = at.first()?;
     match first.kind {
-        Kind::Mark(Mark::Comma) => {
-            let (part, at) = atom(alloc, next, node)?;
-            Ok((Some(part), at))
+        Seen::Mark(Mark::Comma) => {
+            at.advance();
+            let part = atom(alloc, at, node)?;
+            Ok(Some(part))
         }
-        Kind::Mark(Mark::BracketClose) => Ok((None, next)),
-        _ => Err(syntax(at.rest.len())),
+        Seen::Mark(Mark::BracketClose) => {
+            at.advance();
+            Ok(None)
+        }
+        _ => Err(syntax(at)),
     }
 }
 
-fn more_atoms(alloc: Global, start: Cursor<'_>, node: Node) -> Read<'_, Vec<SAtom>>
+fn more_atoms(alloc: Global, at: &mut Reader<'_>, node: Node) -> Result<Vec<SAtom>, Stop>
     requires { node.nesting ≤ 1001 }
-    ensures { GivesPart (λ v. (map atom_of v.items, tt)) result
-        (read limited (atoms node.later node.numbered node.nesting) (state_of start.entry)) }
+    ensures { GivesPart (λ v. (map atom_of v.items, tt)) result (state_of at.new)
+        (read limited (atoms node.later node.numbered node.nesting) (state_of at.old)) }
 {
     let mut more = Vec::new(alloc);
-    let mut at = start;
     'items: loop {
-        let (item, after) = next_atom(alloc, at, node)?;
+        let item = next_atom(alloc, at, node)?;
         match item {
             Some(part) => more.push(part)?,
-            None => return Ok((more, after)),
+            None => return Ok(more),
         }
-        at = after;
     }
 }
 
 /// An effect whose atoms have this nesting, or 0 where they have none.
-pub fn effect(alloc: Global, at: Cursor<'_>, node: Node) -> Read<'_, Vec<SAtom>>
+pub fn effect(alloc: Global, at: &mut Reader<'_>, node: Node) -> Result<Vec<SAtom>, Stop>
     requires { node.nesting ≤ 1001 }
-    ensures { GivesPart (λ v. map atom_of v.items) result
-        (read limited (effect node.later node.numbered node.nesting) (state_of at.entry)) }
+    ensures { GivesPart (λ v. map atom_of v.items) result (state_of at.new)
+        (read limited (effect node.later node.numbered node.nesting) (state_of at.old)) }
 {
-    let (first, next) = next_token(at)?;
+    let first = at.first()?;
     match first.kind {
-        Kind::Mark(Mark::BracketOpen) => { effect_in_brackets(alloc, first.span, next, node) }
-        _ => Err(syntax(at.rest.len())),
+        Seen::Mark(Mark::BracketOpen) => {
+            at.advance();
+            effect_in_brackets(alloc, first.span, at, node)
+        }
+        _ => Err(syntax(at)),
     }
 }
 
 fn effect_in_brackets(
     alloc: Global,
     _first: Span,
-    at: Cursor<'_>,
+    at: &mut Reader<'_>,
     node: Node,
-) -> Read<'_, Vec<SAtom>>
+) -> Result<Vec<SAtom>, Stop>
     requires { node.nesting ≤ 1001 }
-    ensures { GivesPart (λ v. map atom_of v.items) result
+    ensures { GivesPart (λ v. map atom_of v.items) result (state_of at.new)
         (behind_move limited (read limited)
         (delta_bracket node.later node.numbered node.nesting) (_first ∷ [])
-        (state_of at.entry)) }
+        (state_of at.old)) }
 {
-    let (second, next) = next_token(at)?;
+    let second = at.first()?;
     match second.kind {
-        Kind::Mark(Mark::BracketClose) => Ok((Vec::new(alloc), next)),
+        Seen::Mark(Mark::BracketClose) => {
+            at.advance();
+            Ok(Vec::new(alloc))
+        }
         _ => some_atoms(alloc, at, node),
     }
 }
 
-fn some_atoms(alloc: Global, at: Cursor<'_>, node: Node) -> Read<'_, Vec<SAtom>>
+fn some_atoms(alloc: Global, at: &mut Reader<'_>, node: Node) -> Result<Vec<SAtom>, Stop>
     requires { node.nesting ≤ 1001 }
-    ensures { GivesPart (λ v. map atom_of v.items) result
-        (effect_form node.later node.numbered node.nesting [] (state_of at.entry)) }
+    ensures { GivesPart (λ v. map atom_of v.items) result (state_of at.new)
+        (effect_form node.later node.numbered node.nesting [] (state_of at.old)) }
 {
-    let (first, at) = atom(alloc, at, node)?;
-    let (more, at) = more_atoms(alloc, at, node)?;
+    let first = atom(alloc, at, node)?;
+    let more = more_atoms(alloc, at, node)?;
     let atoms = put_first(alloc, first, more)?;
-    Ok((atoms, at))
+    Ok(atoms)
 }
 
 /// The atoms with one before them.

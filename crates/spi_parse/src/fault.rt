@@ -1,6 +1,7 @@
 ghost use Rattle.std.specs.Prelude.{◌≡◌};
 ghost use Rattle.spi_parse.specs.declared.fault.Stop.TheVariants.{NoMemory};
 
+use spi_lex::LexFault;
 use std::alloc::{AllocError, AllocFailed};
 use thiserror::Error;
 
@@ -14,6 +15,18 @@ pub enum ParseFault {
     #[error("a node above a nesting limit starts at token {token}")]
     TooDeep { token: u32 },
     #[error("out of memory")]
+    NoMemory,
+}
+
+/// Why bytes are no tree, with the offset at which it is seen.
+#[derive(Debug, Drop)]
+pub enum ByteFault {
+    /// They have no tokens, for this fault.
+    Lexical(LexFault),
+    /// No tree goes on with the token that begins here; behind all tokens it is the end of the bytes.
+    Syntax { at: u32 },
+    /// A node above a nesting limit starts here.
+    TooDeep { at: u32 },
     NoMemory,
 }
 

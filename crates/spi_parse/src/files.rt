@@ -7,13 +7,15 @@ ghost use Rattle.spi_parse.specs.Wholes.{body_of, first_form, later_form};
 ghost use Rattle.spi_parse.specs.Table.{opponent_tail, schedule_tail, derivation_tail, body, file, file_from};
 ghost use Rattle.spi_parse.specs.Reading.{read, limited};
 
-use crate::cursor::{Cursor, Read, next_token, span_from, syntax};
+use crate::cursor::{Reader, span_from, syntax};
 use crate::declarations::all_declarations;
 use crate::derivations::derivation;
+use crate::fault::Stop;
 use crate::processes::process;
 use crate::reading::{take_mark, take_two};
 use crate::schedules::all_steps;
-use spi_lex::{Kind, Mark, Reserved};
+use crate::seen::Seen;
+use spi_lex::{Mark, Reserved};
 use spi_text::Span;
 use spi_tree::{Decl, SDeriv, SProc, SStep, Tree};
 use std::alloc::Global;
@@ -28,60 +30,63 @@ pub struct FileParts {
     pub derivation: Option<SDeriv>,
 }
 
-fn opponent(alloc: Global, at: Cursor<'_>, later: bool) -> Read<'_, Option<SProc>>
-    ensures { GivesPart opponent_of result (read limited (opponent_tail later) (state_of at.entry)) }
+fn opponent(alloc: Global, at: &mut Reader<'_>, later: bool) -> Result<Option<SProc>, Stop>
+    ensures { GivesPart opponent_of result (state_of at.new) (read limited (opponent_tail later) (state_of at.old)) }
 {
-    let Ok((first, next)) = next_token(at) else {
-        return Ok((None, at));
+    let Ok(first) = at.first() else {
+        return Ok(None);
     };
     match first.kind {
-        Kind::Reserved(Reserved::Opponent) => {
-            let (part, at) = process(alloc, next, later, 0)?;
-            Ok((Some(part), at))
+        Seen::Reserved(Reserved::Opponent) => {
+            at.advance();
+            let part = process(alloc, at, later, 0)?;
+            Ok(Some(part))
         }
-        _ => Ok((None, at)),
+        _ => Ok(None),
     }
 }
 
-fn schedule(alloc: Global, at: Cursor<'_>) -> Read<'_, Option<Vec<SStep>>>
-    ensures { GivesPart schedule_of result (read limited schedule_tail (state_of at.entry)) }
+fn schedule(alloc: Global, at: &mut Reader<'_>) -> Result<Option<Vec<SStep>>, Stop>
+    ensures { GivesPart schedule_of result (state_of at.new) (read limited schedule_tail (state_of at.old)) }
 {
-    let Ok((first, next)) = next_token(at) else {
-        return Ok((None, at));
+    let Ok(first) = at.first() else {
+        return Ok(None);
     };
     match first.kind {
-        Kind::Reserved(Reserved::Schedule) => {
-            let (part, at) = all_steps(alloc, next)?;
-            Ok((Some(part), at))
+        Seen::Reserved(Reserved::Schedule) => {
+            at.advance();
+            let part = all_steps(alloc, at)?;
+            Ok(Some(part))
         }
-        _ => Ok((None, at)),
+        _ => Ok(None),
     }
 }
 
-fn derivation_part(alloc: Global, at: Cursor<'_>, later: bool) -> Read<'_, Option<SDeriv>>
-    ensures { GivesPart derivation_of result (read limited (derivation_tail later) (state_of at.entry)) }
+fn derivation_part(alloc: Global, at: &mut Reader<'_>, later: bool) -> Result<Option<SDeriv>, Stop>
+    ensures { GivesPart derivation_of result (state_of at.new) (read limited (derivation_tail later) (state_of at.old)) }
 {
-    let Ok((first, next)) = next_token(at) else {
-        return Ok((None, at));
+    let Ok(first) = at.first() else {
+        return Ok(None);
     };
     match first.kind {
-        Kind::Reserved(Reserved::Derivation) => {
-            let (part, at) = derivation(alloc, next, later, 1)?;
-            Ok((Some(part), at))
+        Seen::Reserved(Reserved::Derivation) => {
+            at.advance();
+            let part = derivation(alloc, at, later, 1)?;
+            Ok(Some(part))
         }
-        _ => Ok((None, at)),
+        _ => Ok(None),
     }
 }
 
-fn file_parts(alloc: Global, at: Cursor<'_>, later: bool) -> Read<'_, FileParts>
-    ensures { GivesPart body_of result (read limited (body later) (state_of at.entry)) }
+fn file_parts(alloc: Global, at: &mut Reader<'_>, later: bool) -> Result<FileParts, Stop>
+    ensures { GivesPart body_of result (state_of at.new) (read limited (body later) (state_of at.old)) }
 {
-    next_token(at)?;
-    let (decls, at) = all_declarations(alloc, at, later)?;
-    let (process, at) = process(alloc, at, later, 0)?;
-    let (opponent, at) = opponent(alloc, at, later)?;
-    let (schedule, at) = schedule(alloc, at)?;
-    let (derivation, at) = derivation_part(alloc, at, later)?;
+    at.first()?;
+    let decls = all_declarations(alloc, at, later)?;
+    let process = process(alloc, at, later, 0)?;
+    let opponent = opponent(alloc, at, later)?;
+    let schedule = schedule(alloc, at)?;
+    let derivation = derivation_part(alloc, at, later)?;
     let parts = FileParts {
         decls,
         process,
@@ -89,7 +94,7 @@ fn file_parts(alloc: Global, at: Cursor<'_>, later: bool) -> Read<'_, FileParts>
         schedule,
         derivation,
     };
-    Ok((parts, at))
+    Ok(parts)
 }
 
 fn make_tree(version: u32, parts: FileParts, span: Span) -> Tree
@@ -107,35 +112,36 @@ fn make_tree(version: u32, parts: FileParts, span: Span) -> Tree
 }
 
 /// A file.
-pub fn read_file(alloc: Global, at: Cursor<'_>) -> Read<'_, Tree>
-    ensures { GivesPart file_of result (read limited file (state_of at.entry)) }
+pub fn read_file(alloc: Global, at: &mut Reader<'_>) -> Result<Tree, Stop>
+    ensures { GivesPart file_of result (state_of at.new) (read limited file (state_of at.old)) }
 {
-    let (first, next) = next_token(at)?;
-    match &first.kind {
-        Kind::Word(word) => {
-            if word.as_str() == "version" {
-                return later_file(alloc, first.span, next);
+    let first = at.first()?;
+    match first.kind {
+        Seen::Word(word) => {
+            if word == "version" {
+                at.advance();
+                return later_file(alloc, first.span, at);
             }
-            Err(syntax(at.rest.len()))
+            Err(syntax(at))
         }
         _ => first_file(alloc, first.span, at),
     }
 }
 
-fn later_file(alloc: Global, first: Span, at: Cursor<'_>) -> Read<'_, Tree>
-    ensures { GivesPart file_of result (later_form (first ∷ []) (state_of at.entry)) }
+fn later_file(alloc: Global, first: Span, at: &mut Reader<'_>) -> Result<Tree, Stop>
+    ensures { GivesPart file_of result (state_of at.new) (later_form (first ∷ []) (state_of at.old)) }
 {
-    let at = take_two(at)?;
-    let at = take_mark(at, Mark::Semicolon)?;
-    let (parts, at) = file_parts(alloc, at, true)?;
+    take_two(at)?;
+    take_mark(at, Mark::Semicolon)?;
+    let parts = file_parts(alloc, at, true)?;
     let span = span_from(first, at);
-    Ok((make_tree(2, parts, span), at))
+    Ok(make_tree(2, parts, span))
 }
 
-fn first_file(alloc: Global, first: Span, at: Cursor<'_>) -> Read<'_, Tree>
-    ensures { GivesPart file_of result (first_form (first ∷ []) (state_of at.entry)) }
+fn first_file(alloc: Global, first: Span, at: &mut Reader<'_>) -> Result<Tree, Stop>
+    ensures { GivesPart file_of result (state_of at.new) (first_form (first ∷ []) (state_of at.old)) }
 {
-    let (parts, at) = file_parts(alloc, at, false)?;
+    let parts = file_parts(alloc, at, false)?;
     let span = span_from(first, at);
-    Ok((make_tree(1, parts, span), at))
+    Ok(make_tree(1, parts, span))
 }

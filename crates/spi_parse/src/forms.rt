@@ -1,9 +1,11 @@
 //! Which form of a process a token begins.
 
 ghost use Rattle.std.specs.Prelude.{◌≡◌};
+ghost use Rattle.spi_parse.specs.Seen.{kind_of};
 ghost use Rattle.spi_parse.specs.FormMoves.{form_of, form_of_word, form_of_mark};
 
-use spi_lex::{Kind, Mark, Reserved};
+use crate::seen::Seen;
+use spi_lex::{Mark, Reserved};
 
 /// A form that sends or receives.
 #[derive(Clone, Copy)]
@@ -88,13 +90,13 @@ fn form_of_mark(mark: Mark) -> Form
 }
 
 /// The form that begins with this token.
-pub fn form_of(later: bool, kind: &Kind) -> Form
-    ensures { result ≡ form_of later kind.now }
+pub fn form_of(later: bool, kind: &Seen<'_>) -> Form
+    ensures { result ≡ form_of later (kind_of kind.now) }
 {
     match kind {
-        Kind::Word(_) => Form::NoForm,
-        Kind::Reserved(word) => form_of_word(later, *word),
-        Kind::Number(_) => Form::NoForm,
-        Kind::Mark(mark) => form_of_mark(*mark),
+        Seen::Word(_) => Form::NoForm,
+        Seen::Reserved(word) => form_of_word(later, *word),
+        Seen::Number(_) => Form::NoForm,
+        Seen::Mark(mark) => form_of_mark(*mark),
     }
 }

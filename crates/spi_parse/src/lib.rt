@@ -2,6 +2,7 @@
 #![tactic(auto, using(crate::proofs::Readers::read_is_step))]
 
 mod boxes;
+mod bytes;
 mod cursor;
 mod declarations;
 mod derivations;
@@ -16,10 +17,12 @@ mod parts;
 mod processes;
 mod reading;
 mod schedules;
+mod seen;
 mod types;
 mod whole;
 
-pub use fault::ParseFault;
+pub use bytes::parse_bytes;
+pub use fault::{ByteFault, ParseFault};
 pub use laws::one_placed_tree;
 pub use parts::{decl_at, message_at, one_tree, process_at, type_at};
 use std::alloc::AllocError;

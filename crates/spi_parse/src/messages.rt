@@ -10,17 +10,17 @@ ghost use Rattle.spi_parse.specs.Reading.{read, limited, front, behind_move, ite
 
 use crate::NoMemory;
 use crate::boxes::{TreePart, boxed};
-use crate::cursor::{
-    Cursor, MESSAGE_LIMIT, Read, accept, fits, next_token, placed_word, span_from, syntax,
-};
+use crate::cursor::{MESSAGE_LIMIT, Reader, accept, fits, placed_word, span_from, syntax};
+use crate::fault::Stop;
 use crate::reading::{take_mark, take_number};
-use spi_lex::{Kind, Mark, Reserved};
-use spi_text::{Span, Text};
+use crate::seen::Seen;
+use spi_lex::{Mark, Reserved};
+use spi_text::Span;
 use spi_tree::{More, MsgParts, SMsg};
 use std::alloc::Global;
 
 /// A message, with the place behind it.
-type Part<'t> = Read<'t, SMsg>;
+type Part = Result<SMsg, Stop>;
 
 impl TreePart for SMsg {
     ghost Tree = { Msg };
@@ -62,8 +62,8 @@ pub struct Node {
 
 /// An outermost message with names.
 #[inline(always)]
-pub fn message(alloc: Global, at: Cursor<'_>, later: bool) -> Read<'_, SMsg>
-    ensures { GivesPart msg_of result (read limited (msg later false 1) (state_of at.entry)) }
+pub fn message(alloc: Global, at: &mut Reader<'_>, later: bool) -> Result<SMsg, Stop>
+    ensures { GivesPart msg_of result (state_of at.new) (read limited (msg later false 1) (state_of at.old)) }
 {
     let node = Node {
         later,
@@ -76,21 +76,23 @@ pub fn message(alloc: Global, at: Cursor<'_>, later: bool) -> Read<'_, SMsg>
 /// A message that stands so. Most are names or in parentheses: only the others are read by a call for any form.
 #[cycle(messages)]
 #[inline(always)]
-pub fn message_of(alloc: Global, at: Cursor<'_>, node: Node) -> Part<'_>
+pub fn message_of(alloc: Global, at: &mut Reader<'_>, node: Node) -> Part
     requires { node.nesting ≤ 1001 }
-    ensures { GivesPart msg_of result
-        (read limited (msg node.later node.numbered node.nesting) (state_of at.entry)) }
+    ensures { GivesPart msg_of result (state_of at.new)
+        (read limited (msg node.later node.numbered node.nesting) (state_of at.old)) }
 {
-    let (first, next) = next_token(at)?;
-    match &first.kind {
-        Kind::Word(word) => {
-            accept(!node.numbered, at.rest.len())?;
-            fits(node.nesting, MESSAGE_LIMIT, at.rest.len())?;
-            read_name(alloc, word, first.span, next)
+    let first = at.first()?;
+    match first.kind {
+        Seen::Word(word) => {
+            accept(!node.numbered, at)?;
+            fits(node.nesting, MESSAGE_LIMIT, at)?;
+            at.advance();
+            read_name(alloc, word, first.span, at)
         }
-        Kind::Mark(Mark::ParenOpen) => {
-            fits(node.nesting, MESSAGE_LIMIT, at.rest.len())?;
-            message_in_parens(alloc, first.span, next, node)
+        Seen::Mark(Mark::ParenOpen) => {
+            fits(node.nesting, MESSAGE_LIMIT, at)?;
+            at.advance();
+            message_in_parens(alloc, first.span, at, node)
         }
         _ => any_message(alloc, at, node),
     }
@@ -99,171 +101,179 @@ pub fn message_of(alloc: Global, at: Cursor<'_>, node: Node) -> Part<'_>
 /// A message that stands so, of any form.
 #[cycle(messages)]
 #[inline(never)]
-pub fn any_message(alloc: Global, at: Cursor<'_>, node: Node) -> Part<'_>
+pub fn any_message(alloc: Global, at: &mut Reader<'_>, node: Node) -> Part
     requires { node.nesting ≤ 1001 }
-    ensures { GivesPart msg_of result
-        (read limited (msg node.later node.numbered node.nesting) (state_of at.entry)) }
+    ensures { GivesPart msg_of result (state_of at.new)
+        (read limited (msg node.later node.numbered node.nesting) (state_of at.old)) }
 {
-    let (first, next) = next_token(at)?;
-    match &first.kind {
-        Kind::Word(word) => {
-            accept(!node.numbered, at.rest.len())?;
-            fits(node.nesting, MESSAGE_LIMIT, at.rest.len())?;
-            read_name(alloc, word, first.span, next)
+    let first = at.first()?;
+    match first.kind {
+        Seen::Word(word) => {
+            accept(!node.numbered, at)?;
+            fits(node.nesting, MESSAGE_LIMIT, at)?;
+            at.advance();
+            read_name(alloc, word, first.span, at)
         }
-        Kind::Mark(Mark::ParenOpen) => {
-            fits(node.nesting, MESSAGE_LIMIT, at.rest.len())?;
-            message_in_parens(alloc, first.span, next, node)
+        Seen::Mark(Mark::ParenOpen) => {
+            fits(node.nesting, MESSAGE_LIMIT, at)?;
+            at.advance();
+            message_in_parens(alloc, first.span, at, node)
         }
-        Kind::Mark(Mark::BraceOpen) => {
-            fits(node.nesting, MESSAGE_LIMIT, at.rest.len())?;
-            read_enc(alloc, first.span, next, node)
+        Seen::Mark(Mark::BraceOpen) => {
+            fits(node.nesting, MESSAGE_LIMIT, at)?;
+            at.advance();
+            read_enc(alloc, first.span, at, node)
         }
-        Kind::Mark(Mark::NumberSign) => {
-            accept(node.numbered, at.rest.len())?;
-            fits(node.nesting, MESSAGE_LIMIT, at.rest.len())?;
-            read_numeral(first.span, next, node)
+        Seen::Mark(Mark::NumberSign) => {
+            accept(node.numbered, at)?;
+            fits(node.nesting, MESSAGE_LIMIT, at)?;
+            at.advance();
+            read_numeral(first.span, at, node)
         }
-        Kind::Reserved(Reserved::Inl) => {
-            fits(node.nesting, MESSAGE_LIMIT, at.rest.len())?;
-            read_inl(alloc, first.span, next, node)
+        Seen::Reserved(Reserved::Inl) => {
+            fits(node.nesting, MESSAGE_LIMIT, at)?;
+            at.advance();
+            read_inl(alloc, first.span, at, node)
         }
-        Kind::Reserved(Reserved::Inr) => {
-            fits(node.nesting, MESSAGE_LIMIT, at.rest.len())?;
-            read_inr(alloc, first.span, next, node)
+        Seen::Reserved(Reserved::Inr) => {
+            fits(node.nesting, MESSAGE_LIMIT, at)?;
+            at.advance();
+            read_inr(alloc, first.span, at, node)
         }
-        Kind::Reserved(Reserved::Hash) => {
-            accept(node.later, at.rest.len())?;
-            fits(node.nesting, MESSAGE_LIMIT, at.rest.len())?;
-            read_hash(alloc, first.span, next, node)
+        Seen::Reserved(Reserved::Hash) => {
+            accept(node.later, at)?;
+            fits(node.nesting, MESSAGE_LIMIT, at)?;
+            at.advance();
+            read_hash(alloc, first.span, at, node)
         }
-        _ => Err(syntax(at.rest.len())),
+        _ => Err(syntax(at)),
     }
 }
 
 // The message in a box: it is one while the next part is read, so that deep messages fit the stack.
 #[cycle(messages)]
-fn boxed_message(alloc: Global, at: Cursor<'_>, node: Node) -> Read<'_, Box<SMsg>>
+fn boxed_message(alloc: Global, at: &mut Reader<'_>, node: Node) -> Result<Box<SMsg>, Stop>
     requires { node.nesting ≤ 1001 }
-    ensures { GivesBox msg_of result
-        (read limited (msg node.later node.numbered node.nesting) (state_of at.entry)) }
+    ensures { GivesBox msg_of result (state_of at.new)
+        (read limited (msg node.later node.numbered node.nesting) (state_of at.old)) }
 {
-    let (tree, at) = message_of(alloc, at, node)?;
+    let tree = message_of(alloc, at, node)?;
     boxed(alloc, tree, at)
 }
 
 #[inline(always)]
-fn read_name<'t>(alloc: Global, word: &Text, span: Span, at: Cursor<'t>) -> Part<'t>
-    ensures { GivesPart msg_of result (done (name span (word_at word.now span)) (state_of at.entry)) }
+fn read_name(alloc: Global, word: &str, span: Span, at: &mut Reader<'_>) -> Part
+    ensures { GivesPart msg_of result (state_of at.new) (done (name span (word_at word.now span)) (state_of at.old)) }
 {
     let name = placed_word(alloc, word, span)?;
-    Ok((SMsg::Name { name }, at))
+    Ok(SMsg::Name { name })
 }
 
-fn read_numeral(first: Span, at: Cursor<'_>, node: Node) -> Part<'_>
-    ensures { GivesPart msg_of result
-        (numeral_form node.later node.numbered node.nesting (first ∷ []) (state_of at.entry)) }
+fn read_numeral(first: Span, at: &mut Reader<'_>, node: Node) -> Part
+    ensures { GivesPart msg_of result (state_of at.new)
+        (numeral_form node.later node.numbered node.nesting (first ∷ []) (state_of at.old)) }
 {
-    let (number, at) = take_number(at)?;
+    let number = take_number(at)?;
     let span = span_from(first, at);
-    Ok((SMsg::Num { number, span }, at))
+    Ok(SMsg::Num { number, span })
 }
 
 #[cycle(messages)]
-fn read_enc(alloc: Global, first: Span, at: Cursor<'_>, node: Node) -> Part<'_>
+fn read_enc(alloc: Global, first: Span, at: &mut Reader<'_>, node: Node) -> Part
     requires { node.nesting ≤ 1000 }
-    ensures { GivesPart msg_of result
-        (enc_form node.later node.numbered node.nesting (first ∷ []) (state_of at.entry)) }
-{
-    let inner = Node {
-        nesting: node.nesting + 1,
-        ..node
-    };
-    let (body, at) = boxed_message(alloc, at, inner)?;
-    let at = take_mark(at, Mark::BraceClose)?;
-    let (key, at) = boxed_message(alloc, at, inner)?;
-    let span = span_from(first, at);
-    Ok((SMsg::Enc { body, key, span }, at))
-}
-
-#[cycle(messages)]
-fn read_inl(alloc: Global, first: Span, at: Cursor<'_>, node: Node) -> Part<'_>
-    requires { node.nesting ≤ 1000 }
-    ensures { GivesPart msg_of result
-        (inl_form node.later node.numbered node.nesting (first ∷ []) (state_of at.entry)) }
+    ensures { GivesPart msg_of result (state_of at.new)
+        (enc_form node.later node.numbered node.nesting (first ∷ []) (state_of at.old)) }
 {
     let inner = Node {
         nesting: node.nesting + 1,
         ..node
     };
-    let (part, at) = boxed_message(alloc, at, inner)?;
+    let body = boxed_message(alloc, at, inner)?;
+    take_mark(at, Mark::BraceClose)?;
+    let key = boxed_message(alloc, at, inner)?;
     let span = span_from(first, at);
-    Ok((SMsg::Inl { part, span }, at))
+    Ok(SMsg::Enc { body, key, span })
 }
 
 #[cycle(messages)]
-fn read_inr(alloc: Global, first: Span, at: Cursor<'_>, node: Node) -> Part<'_>
+fn read_inl(alloc: Global, first: Span, at: &mut Reader<'_>, node: Node) -> Part
     requires { node.nesting ≤ 1000 }
-    ensures { GivesPart msg_of result
-        (inr_form node.later node.numbered node.nesting (first ∷ []) (state_of at.entry)) }
+    ensures { GivesPart msg_of result (state_of at.new)
+        (inl_form node.later node.numbered node.nesting (first ∷ []) (state_of at.old)) }
 {
     let inner = Node {
         nesting: node.nesting + 1,
         ..node
     };
-    let (part, at) = boxed_message(alloc, at, inner)?;
+    let part = boxed_message(alloc, at, inner)?;
     let span = span_from(first, at);
-    Ok((SMsg::Inr { part, span }, at))
+    Ok(SMsg::Inl { part, span })
 }
 
 #[cycle(messages)]
-fn read_hash(alloc: Global, first: Span, at: Cursor<'_>, node: Node) -> Part<'_>
+fn read_inr(alloc: Global, first: Span, at: &mut Reader<'_>, node: Node) -> Part
     requires { node.nesting ≤ 1000 }
-    ensures { GivesPart msg_of result
-        (hash_form node.later node.numbered node.nesting (first ∷ []) (state_of at.entry)) }
+    ensures { GivesPart msg_of result (state_of at.new)
+        (inr_form node.later node.numbered node.nesting (first ∷ []) (state_of at.old)) }
 {
     let inner = Node {
         nesting: node.nesting + 1,
         ..node
     };
-    let at = take_mark(at, Mark::ParenOpen)?;
-    let (part, at) = boxed_message(alloc, at, inner)?;
-    let at = take_mark(at, Mark::ParenClose)?;
+    let part = boxed_message(alloc, at, inner)?;
     let span = span_from(first, at);
-    Ok((SMsg::Hash { part, span }, at))
+    Ok(SMsg::Inr { part, span })
 }
 
 #[cycle(messages)]
-fn message_in_parens(alloc: Global, first: Span, at: Cursor<'_>, node: Node) -> Part<'_>
+fn read_hash(alloc: Global, first: Span, at: &mut Reader<'_>, node: Node) -> Part
     requires { node.nesting ≤ 1000 }
-    ensures { GivesPart msg_of result
+    ensures { GivesPart msg_of result (state_of at.new)
+        (hash_form node.later node.numbered node.nesting (first ∷ []) (state_of at.old)) }
+{
+    let inner = Node {
+        nesting: node.nesting + 1,
+        ..node
+    };
+    take_mark(at, Mark::ParenOpen)?;
+    let part = boxed_message(alloc, at, inner)?;
+    take_mark(at, Mark::ParenClose)?;
+    let span = span_from(first, at);
+    Ok(SMsg::Hash { part, span })
+}
+
+#[cycle(messages)]
+fn message_in_parens(alloc: Global, first: Span, at: &mut Reader<'_>, node: Node) -> Part
+    requires { node.nesting ≤ 1000 }
+    ensures { GivesPart msg_of result (state_of at.new)
         (behind_move limited (read limited) (delta_paren node.later node.numbered node.nesting) (first ∷ [])
-        (state_of at.entry)) }
+        (state_of at.old)) }
 {
-    let (second, next) = next_token(at)?;
+    let second = at.first()?;
     match second.kind {
-        Kind::Mark(Mark::ParenClose) => {
-            let span = span_from(first, next);
-            Ok((SMsg::Unit { span }, next))
+        Seen::Mark(Mark::ParenClose) => {
+            at.advance();
+            let span = span_from(first, at);
+            Ok(SMsg::Unit { span })
         }
         _ => read_tuple(alloc, first, at, node),
     }
 }
 
 #[cycle(messages)]
-fn read_tuple(alloc: Global, opening: Span, at: Cursor<'_>, node: Node) -> Part<'_>
+fn read_tuple(alloc: Global, opening: Span, at: &mut Reader<'_>, node: Node) -> Part
     requires { node.nesting ≤ 1000 }
-    ensures { GivesPart msg_of result
-        (tuple_form node.later node.numbered node.nesting (opening ∷ []) (state_of at.entry)) }
+    ensures { GivesPart msg_of result (state_of at.new)
+        (tuple_form node.later node.numbered node.nesting (opening ∷ []) (state_of at.old)) }
 {
     let inner = Node {
         nesting: node.nesting + 1,
         ..node
     };
-    let (first, at) = message_of(alloc, at, inner)?;
-    let at = take_mark(at, Mark::Comma)?;
-    let (second, at) = message_of(alloc, at, inner)?;
-    let (more, at) = more_messages(alloc, at, inner)?;
+    let first = message_of(alloc, at, inner)?;
+    take_mark(at, Mark::Comma)?;
+    let second = message_of(alloc, at, inner)?;
+    let more = more_messages(alloc, at, inner)?;
     end_tuple(alloc, opening, first, second, more, at)
 }
 
@@ -275,44 +285,47 @@ fn end_tuple(
     first: SMsg,
     second: SMsg,
     more: More,
-    at: Cursor<'_>,
-) -> Part<'_>
-    ensures { GivesPart msg_of result
-        (done (tuple (over (opening ∷ []) at.entry.end) (msg_of first) (msg_of second)
-        (msgs_of_list (map msg_of (more_items more)))) (state_of at.entry)) }
+    at: &mut Reader<'_>,
+) -> Part
+    ensures { GivesPart msg_of result (state_of at.new)
+        (done (tuple (over (opening ∷ []) (state_of at.old).end) (msg_of first) (msg_of second)
+        (msgs_of_list (map msg_of (more_items more)))) (state_of at.old)) }
 {
     let span = span_from(opening, at);
     let whole = make_tuple(alloc, first, second, more, span)?;
-    Ok((whole, at))
+    Ok(whole)
 }
 
 /// The components of a tuple behind the first two.
 #[cycle(messages)]
 #[inline(always)]
-fn more_messages(alloc: Global, at: Cursor<'_>, node: Node) -> Read<'_, More>
+fn more_messages(alloc: Global, at: &mut Reader<'_>, node: Node) -> Result<More, Stop>
     requires { node.nesting ≤ 1001 }
-    ensures { GivesPart (λ v. (map msg_of (more_items v), tt)) result
-        (read limited (msgs node.later node.numbered node.nesting) (state_of at.entry)) }
+    ensures { GivesPart (λ v. (map msg_of (more_items v), tt)) result (state_of at.new)
+        (read limited (msgs node.later node.numbered node.nesting) (state_of at.old)) }
 {
-    let (item, at) = next_message(alloc, at, node)?;
+    let item = next_message(alloc, at, node)?;
     match item {
         Some(third) => behind_third(alloc, third, at, node),
-        None => Ok((More::None, at)),
+        None => Ok(More::None),
     }
 }
 
 /// The third component of a tuple with those behind it.
 #[cycle(messages)]
 #[inline(always)]
-fn behind_third(alloc: Global, third: SMsg, at: Cursor<'_>, node: Node) -> Read<'_, More>
+fn behind_third(alloc: Global, third: SMsg, at: &mut Reader<'_>, node: Node) -> Result<More, Stop>
     requires { node.nesting ≤ 1001 }
-    ensures { GivesPart (λ v. (map msg_of (more_items v), tt)) result
+    ensures { GivesPart (λ v. (map msg_of (more_items v), tt)) result (state_of at.new)
         (front (msg_of third ∷ [])
-        (read limited (msgs node.later node.numbered node.nesting) (state_of at.entry))) }
+        (read limited (msgs node.later node.numbered node.nesting) (state_of at.old))) }
 {
-    let (first, next) = next_token(at)?;
+    let first = at.first()?;
     match first.kind {
-        Kind::Mark(Mark::ParenClose) => Ok((More::One(third), next)),
+        Seen::Mark(Mark::ParenClose) => {
+            at.advance();
+            Ok(More::One(third))
+        }
         _ => several_messages(alloc, third, at, node),
     }
 }
@@ -320,39 +333,46 @@ fn behind_third(alloc: Global, third: SMsg, at: Cursor<'_>, node: Node) -> Read<
 /// The third component of a tuple with those behind it, of which there are several.
 #[cycle(messages)]
 #[inline(never)]
-fn several_messages(alloc: Global, third: SMsg, start: Cursor<'_>, node: Node) -> Read<'_, More>
+fn several_messages(
+    alloc: Global,
+    third: SMsg,
+    at: &mut Reader<'_>,
+    node: Node,
+) -> Result<More, Stop>
     requires { node.nesting ≤ 1001 }
-    ensures { GivesPart (λ v. (map msg_of (more_items v), tt)) result
+    ensures { GivesPart (λ v. (map msg_of (more_items v), tt)) result (state_of at.new)
         (front (msg_of third ∷ [])
-        (read limited (msgs node.later node.numbered node.nesting) (state_of start.entry))) }
+        (read limited (msgs node.later node.numbered node.nesting) (state_of at.old))) }
 {
     let mut more = Vec::new(alloc);
     more.push(third)?;
-    let mut at = start;
     'items: loop {
-        let (item, after) = next_message(alloc, at, node)?;
+        let item = next_message(alloc, at, node)?;
         match item {
             Some(part) => more.push(part)?,
-            None => return Ok((More::Several(more), after)),
+            None => return Ok(More::Several(more)),
         }
-        at = after;
     }
 }
 
 #[cycle(messages)]
 #[inline(always)]
-fn next_message(alloc: Global, at: Cursor<'_>, node: Node) -> Read<'_, Option<SMsg>>
+fn next_message(alloc: Global, at: &mut Reader<'_>, node: Node) -> Result<Option<SMsg>, Stop>
     requires { node.nesting ≤ 1001 }
-    ensures { GivesPart (item_of msg_of tt) result
-        (read limited (msgs_item node.later node.numbered node.nesting) (state_of at.entry)) }
+    ensures { GivesPart (item_of msg_of tt) result (state_of at.new)
+        (read limited (msgs_item node.later node.numbered node.nesting) (state_of at.old)) }
 {
-    let (first, next) = next_token(at)?;
+    let first = at.first()?;
     match first.kind {
-        Kind::Mark(Mark::Comma) => {
-            let (part, at) = message_of(alloc, next, node)?;
-            Ok((Some(part), at))
+        Seen::Mark(Mark::Comma) => {
+            at.advance();
+            let part = message_of(alloc, at, node)?;
+            Ok(Some(part))
         }
-        Kind::Mark(Mark::ParenClose) => Ok((None, next)),
-        _ => Err(syntax(at.rest.len())),
+        Seen::Mark(Mark::ParenClose) => {
+            at.advance();
+            Ok(None)
+        }
+        _ => Err(syntax(at)),
     }
 }

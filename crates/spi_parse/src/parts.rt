@@ -12,7 +12,7 @@ ghost use Rattle.spi_parse.specs.Faults.{fault_of_stop};
 ghost use Rattle.spi_parse.specs.Formed.{IsFile, whole_decl, whole_type, whole_message, whole_process, IsWholeDecl, IsWholeType, IsWholeMessage, IsWholeProcess};
 
 use crate::ParseFault;
-use crate::cursor::{Cursor, Read};
+use crate::cursor::Reader;
 use crate::declarations::declaration;
 use crate::fault::{Fault, Stop};
 use crate::messages::message;
@@ -38,25 +38,18 @@ pub fn fault_of(count: usize, stop: Stop) -> ParseFault
     }
 }
 
-/// The place before the token of this number.
-fn place_at(tokens: &[Token], from: u32) -> Cursor<'_>
-    requires { from ≤ length tokens.now }
-    ensures { (result.rest.now ≡ drop from tokens.now) × (result.end ≡ 0) }
-{
-    Cursor {
-        rest: &tokens[from as usize..],
-        end: 0,
-    }
-}
-
 /// What reading answered, with the number of the token behind the part, or the fault by the number of its token.
-fn by_number<X>(tokens: &[Token], answer: Read<'_, X>) -> Result<(X, u32), ParseFault>
+fn by_number<X>(
+    tokens: &[Token],
+    answer: Result<X, Stop>,
+    left: usize,
+) -> Result<(X, u32), ParseFault>
     requires { length tokens.now ≤ 16_777_216 }
-    ensures { MatchResult answer.entry (λ x. result ≡ Ok (x.0, length tokens.now - length x.1.rest.now))
+    ensures { MatchResult answer (λ x. result ≡ Ok (x, length tokens.now - left))
         (λ e. result ≡ Err (fault_of_stop (length tokens.now) e)) }
 {
     match answer {
-        Ok((part, at)) => Ok((part, tokens.len().saturating_sub(at.rest.len()) as u32)),
+        Ok(part) => Ok((part, tokens.len().saturating_sub(left) as u32)),
         Err(stop) => Err(fault_of(tokens.len(), stop)),
     }
 }
@@ -79,8 +72,9 @@ pub fn decl_at(
     requires words { AreWordsFit (version == 2) (kinds_of tokens.now) }
     ensures { Reads decl_of whole_decl (IsWholeDecl (version == 2)) result tokens.now from }
 {
-    let start = place_at(tokens, from);
-    by_number(tokens, declaration(alloc, start, version == 2))
+    let mut at = Reader::of(&tokens[from as usize..]);
+    let answer = declaration(alloc, &mut at, version == 2);
+    by_number(tokens, answer, at.left())
 }
 
 /// The type that the tokens from number `from` on begin with, in a text of the version, and the number of the token
@@ -101,8 +95,9 @@ pub fn type_at(
     requires words { AreWordsFit (version == 2) (kinds_of tokens.now) }
     ensures { Reads ty_of whole_type (IsWholeType (version == 2)) result tokens.now from }
 {
-    let start = place_at(tokens, from);
-    by_number(tokens, read_type(alloc, start, version == 2, 1))
+    let mut at = Reader::of(&tokens[from as usize..]);
+    let answer = read_type(alloc, &mut at, version == 2, 1);
+    by_number(tokens, answer, at.left())
 }
 
 /// The message that the tokens from number `from` on begin with, in a text of the version, and the number of the
@@ -123,8 +118,9 @@ pub fn message_at(
     requires words { AreWordsFit (version == 2) (kinds_of tokens.now) }
     ensures { Reads msg_of whole_message (IsWholeMessage (version == 2)) result tokens.now from }
 {
-    let start = place_at(tokens, from);
-    by_number(tokens, message(alloc, start, version == 2))
+    let mut at = Reader::of(&tokens[from as usize..]);
+    let answer = message(alloc, &mut at, version == 2);
+    by_number(tokens, answer, at.left())
 }
 
 /// The process that the tokens from number `from` on begin with, in a text of the version, and the number of the
@@ -145,8 +141,9 @@ pub fn process_at(
     requires words { AreWordsFit (version == 2) (kinds_of tokens.now) }
     ensures { Reads proc_of whole_process (IsWholeProcess (version == 2)) result tokens.now from }
 {
-    let start = place_at(tokens, from);
-    by_number(tokens, process(alloc, start, version == 2, 0))
+    let mut at = Reader::of(&tokens[from as usize..]);
+    let answer = process(alloc, &mut at, version == 2, 0);
+    by_number(tokens, answer, at.left())
 }
 
 /// Two formed trees with the same tokens are equal up to spans.

@@ -2,88 +2,97 @@
 
 ghost use Rattle.std.specs.Prelude.{◌≡◌};
 ghost use Rattle.spi_parse.specs.Places.{state_of, GivesPart, GivesPlace};
+ghost use Rattle.spi_parse.specs.Seen.{kind_of};
 ghost use Rattle.spi_parse.specs.Table.{the_mark, the_reserved, the_word, the_number, the_two, is_mark, is_reserved};
 ghost use Rattle.spi_parse.specs.Reading.{read, limited};
 
-use crate::cursor::{Cursor, Read, accept, next_token, placed_word, syntax};
+use crate::cursor::{Reader, accept, placed_word, syntax};
 use crate::fault::Stop;
-use spi_lex::{Kind, Mark, Reserved};
+use crate::seen::Seen;
+use spi_lex::{Mark, Reserved};
 use spi_tree::SWord;
 use std::alloc::Global;
 
-fn is_the_mark(mark: Mark, kind: &Kind) -> bool
-    ensures { result ≡ is_mark mark kind.now }
+fn is_the_mark(mark: Mark, kind: &Seen<'_>) -> bool
+    ensures { result ≡ is_mark mark (kind_of kind.now) }
 {
     match kind {
-        Kind::Mark(found) => *found as u8 == mark as u8,
+        Seen::Mark(found) => *found as u8 == mark as u8,
         _ => false,
     }
 }
 
-fn is_the_word(word: Reserved, kind: &Kind) -> bool
-    ensures { result ≡ is_reserved word kind.now }
+fn is_the_word(word: Reserved, kind: &Seen<'_>) -> bool
+    ensures { result ≡ is_reserved word (kind_of kind.now) }
 {
     match kind {
-        Kind::Reserved(found) => *found as u8 == word as u8,
+        Seen::Reserved(found) => *found as u8 == word as u8,
         _ => false,
     }
 }
 
 /// Takes the mark.
 #[inline(always)]
-pub fn take_mark(at: Cursor<'_>, mark: Mark) -> Result<Cursor<'_>, Stop>
-    ensures { GivesPlace result (read limited (the_mark mark) (state_of at.entry)) }
+pub fn take_mark(at: &mut Reader<'_>, mark: Mark) -> Result<(), Stop>
+    ensures { GivesPlace result (state_of at.new) (read limited (the_mark mark) (state_of at.old)) }
 {
-    let (first, next) = next_token(at)?;
-    accept(is_the_mark(mark, &first.kind), at.rest.len())?;
-    Ok(next)
+    let first = at.first()?;
+    accept(is_the_mark(mark, &first.kind), at)?;
+    at.advance();
+    Ok(())
 }
 
 /// Takes the reserved word.
-pub fn take_reserved(at: Cursor<'_>, word: Reserved) -> Result<Cursor<'_>, Stop>
-    ensures { GivesPlace result (read limited (the_reserved word) (state_of at.entry)) }
+pub fn take_reserved(at: &mut Reader<'_>, word: Reserved) -> Result<(), Stop>
+    ensures { GivesPlace result (state_of at.new) (read limited (the_reserved word) (state_of at.old)) }
 {
-    let (first, next) = next_token(at)?;
-    accept(is_the_word(word, &first.kind), at.rest.len())?;
-    Ok(next)
+    let first = at.first()?;
+    accept(is_the_word(word, &first.kind), at)?;
+    at.advance();
+    Ok(())
 }
 
 /// Takes a word.
 #[inline(always)]
-pub fn take_word(alloc: Global, at: Cursor<'_>) -> Read<'_, SWord>
-    ensures { GivesPart (λ part. part) result (read limited the_word (state_of at.entry)) }
+pub fn take_word(alloc: Global, at: &mut Reader<'_>) -> Result<SWord, Stop>
+    ensures { GivesPart (λ part. part) result (state_of at.new) (read limited the_word (state_of at.old)) }
 {
-    let (first, next) = next_token(at)?;
-    match &first.kind {
-        Kind::Word(word) => {
+    let first = at.first()?;
+    match first.kind {
+        Seen::Word(word) => {
             let word = placed_word(alloc, word, first.span)?;
-            Ok((word, next))
+            at.advance();
+            Ok(word)
         }
-        _ => Err(syntax(at.rest.len())),
+        _ => Err(syntax(at)),
     }
 }
 
 /// Takes a number.
-pub fn take_number(at: Cursor<'_>) -> Read<'_, u32>
-    ensures { GivesPart (λ part. part) result (read limited the_number (state_of at.entry)) }
+pub fn take_number(at: &mut Reader<'_>) -> Result<u32, Stop>
+    ensures { GivesPart (λ part. part) result (state_of at.new) (read limited the_number (state_of at.old)) }
 {
-    let (first, next) = next_token(at)?;
+    let first = at.first()?;
     match first.kind {
-        Kind::Number(number) => Ok((number, next)),
-        _ => Err(syntax(at.rest.len())),
+        Seen::Number(number) => {
+            at.advance();
+            Ok(number)
+        }
+        _ => Err(syntax(at)),
     }
 }
 
 /// Takes the number 2.
-pub fn take_two(at: Cursor<'_>) -> Result<Cursor<'_>, Stop>
-    ensures { GivesPlace result (read limited the_two (state_of at.entry)) }
+pub fn take_two(at: &mut Reader<'_>) -> Result<(), Stop>
+    ensures { GivesPlace result (state_of at.new) (read limited the_two (state_of at.old)) }
 {
-    let (first, next) = next_token(at)?;
+    let first = at.first()?;
     match first.kind {
-        Kind::Number(number) => {
-            accept(number == 2, at.rest.len())?;
-            Ok(next)
+        Seen::Number(number) => {
+            accept(number == 2, at)?;
+            at.advance();
+            Ok(())
         }
-        _ => Err(syntax(at.rest.len())),
+        _ => Err(syntax(at)),
     }
 }

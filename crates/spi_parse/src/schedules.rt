@@ -6,69 +6,70 @@ ghost use Rattle.spi_parse.specs.Places.{state_of, GivesPart};
 ghost use Rattle.spi_parse.specs.Table.{act_rest, talk_rest, steps, steps_item};
 ghost use Rattle.spi_parse.specs.Reading.{Gives, read, limited, item_of};
 
-use crate::cursor::{Cursor, Read, next_token, span_from};
+use crate::cursor::{Reader, span_from};
 use crate::fault::Stop;
 use crate::reading::{take_mark, take_number};
-use spi_lex::{Kind, Mark};
+use crate::seen::Seen;
+use spi_lex::Mark;
 use spi_tree::SStep;
 use std::alloc::Global;
 
-fn act(at: Cursor<'_>) -> Read<'_, u32>
-    ensures { Gives (λ x. ((x.0, x.1.end), state_of x.1)) result (read limited act_rest (state_of at.entry)) }
+fn act(at: &mut Reader<'_>) -> Result<u32, Stop>
+    ensures { GivesPart (λ x. (x, (state_of at.new).end)) result (state_of at.new) (read limited act_rest (state_of at.old)) }
 {
-    next_token(at)?;
-    let (place, at) = take_number(at)?;
-    let at = take_mark(at, Mark::Semicolon)?;
-    Ok((place, at))
+    at.first()?;
+    let place = take_number(at)?;
+    take_mark(at, Mark::Semicolon)?;
+    Ok(place)
 }
 
-fn talk(at: Cursor<'_>) -> Result<(u32, u32, Cursor<'_>), Stop>
-    ensures { Gives (λ x. ((x.0, x.1, x.2.end), state_of x.2)) result
-        (read limited talk_rest (state_of at.entry)) }
+fn talk(at: &mut Reader<'_>) -> Result<(u32, u32), Stop>
+    ensures { GivesPart (λ x. (x.0, x.1, (state_of at.new).end)) result (state_of at.new)
+        (read limited talk_rest (state_of at.old)) }
 {
-    next_token(at)?;
-    let (from, at) = take_number(at)?;
-    let (to, at) = take_number(at)?;
-    let at = take_mark(at, Mark::Semicolon)?;
-    Ok((from, to, at))
+    at.first()?;
+    let from = take_number(at)?;
+    let to = take_number(at)?;
+    take_mark(at, Mark::Semicolon)?;
+    Ok((from, to))
 }
 
-fn next_step(at: Cursor<'_>) -> Read<'_, Option<SStep>>
-    ensures { GivesPart (item_of step_of tt) result (read limited steps_item (state_of at.entry)) }
+fn next_step(at: &mut Reader<'_>) -> Result<Option<SStep>, Stop>
+    ensures { GivesPart (item_of step_of tt) result (state_of at.new) (read limited steps_item (state_of at.old)) }
 {
-    let Ok((first, next)) = next_token(at) else {
-        return Ok((None, at));
+    let Ok(first) = at.first() else {
+        return Ok(None);
     };
-    match &first.kind {
-        Kind::Word(word) => {
-            if word.as_str() == "act" {
-                let (place, at) = act(next)?;
+    match first.kind {
+        Seen::Word(word) => {
+            if word == "act" {
+                at.advance();
+                let place = act(at)?;
                 let span = span_from(first.span, at);
-                return Ok((Some(SStep::Act { place, span }), at));
+                return Ok(Some(SStep::Act { place, span }));
             }
-            if word.as_str() == "talk" {
-                let (from, to, at) = talk(next)?;
+            if word == "talk" {
+                at.advance();
+                let (from, to) = talk(at)?;
                 let span = span_from(first.span, at);
-                return Ok((Some(SStep::Talk { from, to, span }), at));
+                return Ok(Some(SStep::Talk { from, to, span }));
             }
-            Ok((None, at))
+            Ok(None)
         }
-        _ => Ok((None, at)),
+        _ => Ok(None),
     }
 }
 
 /// The steps of a schedule.
-pub fn all_steps(alloc: Global, start: Cursor<'_>) -> Read<'_, Vec<SStep>>
-    ensures { GivesPart (λ v. (map step_of v.items, tt)) result (read limited steps (state_of start.entry)) }
+pub fn all_steps(alloc: Global, at: &mut Reader<'_>) -> Result<Vec<SStep>, Stop>
+    ensures { GivesPart (λ v. (map step_of v.items, tt)) result (state_of at.new) (read limited steps (state_of at.old)) }
 {
     let mut more = Vec::new(alloc);
-    let mut at = start;
     'items: loop {
-        let (item, after) = next_step(at)?;
+        let item = next_step(at)?;
         match item {
             Some(part) => more.push(part)?,
-            None => return Ok((more, after)),
+            None => return Ok(more),
         }
-        at = after;
     }
 }

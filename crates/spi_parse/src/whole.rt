@@ -7,7 +7,7 @@ ghost use Rattle.spi_tree.specs.Views.{file_of};
 ghost use Rattle.spi_parse.specs.Exact.{Parses};
 
 use crate::ParseFault;
-use crate::cursor::{Cursor, syntax};
+use crate::cursor::{Reader, syntax};
 use crate::files::read_file;
 use crate::parts::fault_of;
 use spi_lex::Token;
@@ -25,14 +25,11 @@ pub fn parse(alloc: Global, tokens: &[Token], _end: u32) -> Result<Tree, ParseFa
     requires words { AreWordsFit (is_version_2 (kinds_of tokens.now)) (kinds_of tokens.now) }
     ensures { Parses file_of result tokens.now }
 {
-    let start = Cursor {
-        rest: tokens,
-        end: 0,
-    };
-    match read_file(alloc, start) {
-        Ok((tree, at)) => match at.rest {
-            [] => Ok(tree),
-            [_, ..] => Err(fault_of(tokens.len(), syntax(at.rest.len()))),
+    let mut at = Reader::of(tokens);
+    match read_file(alloc, &mut at) {
+        Ok(tree) => match at.first() {
+            Err(_) => Ok(tree),
+            Ok(_) => Err(fault_of(tokens.len(), syntax(&at))),
         },
         Err(stop) => Err(fault_of(tokens.len(), stop)),
     }

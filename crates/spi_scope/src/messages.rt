@@ -1,6 +1,6 @@
 //! Messages.
 
-ghost use Rattle.std.specs.Prelude.{◌≡◌, ◌⊎◌, ◌+◌, ◌<◌, ◌≤◌, ◌∷◌, map, length, IfOk, IfErr, Some, Ok, Err};
+ghost use Rattle.std.specs.Prelude.{◌≡◌, ◌⊎◌, ◌+◌, ◌<◌, ◌≤◌, [], ◌∷◌, ◌++◌, map, length, IfOk, IfErr, OnOk, Some, Ok, Err};
 ghost use Rattle.spi_tree.specs.Views.{msg_of, msgs_of_more};
 ghost use Rattle.spi_tree.specs.Trees.{inl, inr, hash, no_msgs, more_msgs, msgs_of_list, nowhere};
 ghost use Rattle.spi_term.specs.Term.{message_size, unit, pair};
@@ -352,7 +352,20 @@ fn read_rest(
     Ok((whole, total))
 }
 
-/// The components of a tuple but the first two, with their nodes and those of the pairs counted on.
+/// Keeps one more component of a tuple where there are few enough nodes with it.
+#[inline(always)]
+fn keep(total: u64, read: &mut Vec<Msg>, part: Msg) -> Result<(), AllocError>
+    ensures { OnOk result (total ≤ 1000 → read.new.items ≡ read.old.items ++ part ∷ []) }
+{
+    if total > 1000 {
+        return Ok(());
+    }
+    read.push(part)?;
+    Ok(())
+}
+
+/// The components of a tuple but the first two, with their nodes and those of the pairs counted on. Where there are
+/// more than 1,000 nodes only the first components are kept, so that a long tuple takes little memory.
 #[cycle(messages)]
 fn read_messages(
     alloc: Global,
@@ -370,7 +383,7 @@ fn read_messages(
     for m in ms {
         let (part, so_far) = read_message(alloc, scope, base, total.saturating_add(1), m)?;
         total = so_far;
-        read.push(part)?;
+        keep(total, &mut read, part)?;
     }
     Ok((read, total))
 }

@@ -68,17 +68,14 @@ pub fn read_process<'t>(
 {
     match p {
         SProc::Stop { span } => stop(scope, arena, *span),
-        SProc::Out {
-            channel,
-            datum,
-            span,
-        } => send(alloc, scope, arena, channel, datum, *span),
-        SProc::OutThen {
-            channel,
-            datum,
-            then,
-            span,
-        } => send_then(alloc, scope, arena, channel, datum, then, *span),
+        SProc::Out { parts, span } => {
+            send(alloc, scope, arena, &parts.channel, &parts.datum, *span)
+        }
+        SProc::OutThen { parts, span } => {
+            let channel = &parts.channel;
+            let then = &parts.then;
+            send_then(alloc, scope, arena, channel, &parts.datum, then, *span)
+        }
         SProc::Check { .. } => read_messages_form(alloc, scope, arena, p),
         SProc::Begin { .. } => read_messages_form(alloc, scope, arena, p),
         SProc::End { .. } => read_messages_form(alloc, scope, arena, p),
@@ -90,20 +87,20 @@ pub fn read_process<'t>(
         SProc::New { .. } => read_opening_form(alloc, scope, arena, p),
         SProc::Split { .. } => read_pair_form(alloc, scope, arena, p),
         SProc::Match { .. } => read_pair_form(alloc, scope, arena, p),
-        SProc::Case {
-            whole,
-            left,
-            left_ty,
-            on_left: first,
-            right: other,
-            right_ty,
-            on_right: second,
-            span,
-        } => branch(
-            alloc, scope, arena, whole, left, left_ty, first, other, right_ty, second, *span,
-        ),
-        SProc::Par { first, rest, span } => compose(alloc, scope, arena, first, rest, *span),
-        SProc::Group { first, rest, span } => compose(alloc, scope, arena, first, rest, *span),
+        SProc::Case { parts, span } => {
+            let (whole, first, second) = (&parts.whole, &parts.on_left, &parts.on_right);
+            let (left, left_ty) = (&parts.left, &parts.left_ty);
+            let (other, right_ty) = (&parts.right, &parts.right_ty);
+            branch(
+                alloc, scope, arena, whole, left, left_ty, first, other, right_ty, second, *span,
+            )
+        }
+        SProc::Par { parts, span } => {
+            compose(alloc, scope, arena, &parts.first, &parts.rest, *span)
+        }
+        SProc::Group { parts, span } => {
+            compose(alloc, scope, arena, &parts.first, &parts.rest, *span)
+        }
     }
 }
 
@@ -123,26 +120,21 @@ fn read_messages_form<'t>(
         (AddsProcess scope.old scope.new arena.old arena.new scope.old.held.names (proc_of p.entry.now)) }
 {
     match p {
-        SProc::Check {
-            whole,
-            nonce,
-            then,
-            span,
-        } => {
-            check(alloc, scope, arena, *span, whole, nonce)?;
-            read_process(alloc, scope, arena, then)
+        SProc::Check { parts, span } => {
+            check(alloc, scope, arena, *span, &parts.whole, &parts.nonce)?;
+            read_process(alloc, scope, arena, &parts.then)
         }
-        SProc::Begin { label, then, span } => {
-            begin(alloc, scope, arena, *span, label)?;
-            read_process(alloc, scope, arena, then)
+        SProc::Begin { parts, span } => {
+            begin(alloc, scope, arena, *span, &parts.label)?;
+            read_process(alloc, scope, arena, &parts.then)
         }
-        SProc::End { label, then, span } => {
-            end(alloc, scope, arena, *span, label)?;
-            read_process(alloc, scope, arena, then)
+        SProc::End { parts, span } => {
+            end(alloc, scope, arena, *span, &parts.label)?;
+            read_process(alloc, scope, arena, &parts.then)
         }
-        SProc::EndMany { label, then, span } => {
-            end_many(alloc, scope, arena, *span, label)?;
-            read_process(alloc, scope, arena, then)
+        SProc::EndMany { parts, span } => {
+            end_many(alloc, scope, arena, *span, &parts.label)?;
+            read_process(alloc, scope, arena, &parts.then)
         }
         _ => unreachable!(),
     }
@@ -164,35 +156,17 @@ fn read_typed_form<'t>(
         (AddsProcess scope.old scope.new arena.old arena.new scope.old.held.names (proc_of p.entry.now)) }
 {
     match p {
-        SProc::Inp {
-            channel,
-            name,
-            ty,
-            then,
-            span,
-        } => {
-            receive(alloc, scope, arena, *span, channel, ty)?;
-            read_under(alloc, scope, arena, name, then)
+        SProc::Inp { parts, span } => {
+            receive(alloc, scope, arena, *span, &parts.channel, &parts.ty)?;
+            read_under(alloc, scope, arena, &parts.name, &parts.then)
         }
-        SProc::Repeat {
-            channel,
-            name,
-            ty,
-            then,
-            span,
-        } => {
-            serve(alloc, scope, arena, *span, channel, ty)?;
-            read_under(alloc, scope, arena, name, then)
+        SProc::Repeat { parts, span } => {
+            serve(alloc, scope, arena, *span, &parts.channel, &parts.ty)?;
+            read_under(alloc, scope, arena, &parts.name, &parts.then)
         }
-        SProc::Cast {
-            whole,
-            name,
-            ty,
-            then,
-            span,
-        } => {
-            cast(alloc, scope, arena, *span, whole, ty)?;
-            read_under(alloc, scope, arena, name, then)
+        SProc::Cast { parts, span } => {
+            cast(alloc, scope, arena, *span, &parts.whole, &parts.ty)?;
+            read_under(alloc, scope, arena, &parts.name, &parts.then)
         }
         _ => unreachable!(),
     }
@@ -214,25 +188,21 @@ fn read_opening_form<'t>(
         (AddsProcess scope.old scope.new arena.old arena.new scope.old.held.names (proc_of p.entry.now)) }
 {
     match p {
-        SProc::Decrypt {
-            whole,
-            name,
-            ty,
-            key,
-            then,
-            span,
-        } => {
-            decrypt(alloc, scope, arena, *span, whole, ty, key)?;
-            read_under(alloc, scope, arena, name, then)
+        SProc::Decrypt { parts, span } => {
+            decrypt(
+                alloc,
+                scope,
+                arena,
+                *span,
+                &parts.whole,
+                &parts.ty,
+                &parts.key,
+            )?;
+            read_under(alloc, scope, arena, &parts.name, &parts.then)
         }
-        SProc::New {
-            name,
-            ty,
-            then,
-            span,
-        } => {
-            fresh(alloc, scope, arena, *span, ty)?;
-            read_under(alloc, scope, arena, name, then)
+        SProc::New { parts, span } => {
+            fresh(alloc, scope, arena, *span, &parts.ty)?;
+            read_under(alloc, scope, arena, &parts.name, &parts.then)
         }
         _ => unreachable!(),
     }
@@ -254,35 +224,35 @@ fn read_pair_form<'t>(
         (AddsProcess scope.old scope.new arena.old arena.new scope.old.held.names (proc_of p.entry.now)) }
 {
     match p {
-        SProc::Split {
-            whole,
-            left,
-            left_ty,
-            right,
-            right_ty,
-            then,
-            span,
-        } => {
-            split(alloc, scope, arena, *span, whole, left, left_ty, right_ty)?;
-            scope.held.bind(&left.word)?;
-            read_under(alloc, scope, arena, right, then)?;
+        SProc::Split { parts, span } => {
+            split(
+                alloc,
+                scope,
+                arena,
+                *span,
+                &parts.whole,
+                &parts.left,
+                &parts.left_ty,
+                &parts.right_ty,
+            )?;
+            scope.held.bind(&parts.left.word)?;
+            read_under(alloc, scope, arena, &parts.right, &parts.then)?;
             scope.held.unbind();
             Ok(())
         }
-        SProc::Match {
-            whole,
-            left,
-            left_ty,
-            equal,
-            right,
-            right_ty,
-            then,
-            span,
-        } => {
+        SProc::Match { parts, span } => {
             select(
-                alloc, scope, arena, *span, whole, left, left_ty, equal, right_ty,
+                alloc,
+                scope,
+                arena,
+                *span,
+                &parts.whole,
+                &parts.left,
+                &parts.left_ty,
+                &parts.equal,
+                &parts.right_ty,
             )?;
-            read_under(alloc, scope, arena, right, then)
+            read_under(alloc, scope, arena, &parts.right, &parts.then)
         }
         _ => unreachable!(),
     }

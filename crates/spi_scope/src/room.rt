@@ -10,26 +10,22 @@ fn nodes_with(so_far: usize, p: &SProc) -> usize {
     let more = so_far + 1;
     match p {
         SProc::Stop { .. } | SProc::Out { .. } => more,
-        SProc::Par { first, rest, .. } | SProc::Group { first, rest, .. } => {
-            nodes_with(nodes_with(more, first), rest)
+        SProc::Par { parts, .. } | SProc::Group { parts, .. } => {
+            nodes_with(nodes_with(more, &parts.first), &parts.rest)
         }
-        SProc::Case {
-            on_left,
-            on_right,
-            ..
-        } => nodes_with(nodes_with(more, on_left), on_right),
-        SProc::OutThen { then, .. } => nodes_with(more + 1, then),
-        SProc::Inp { then, .. }
-        | SProc::Repeat { then, .. }
-        | SProc::Split { then, .. }
-        | SProc::Match { then, .. }
-        | SProc::Decrypt { then, .. }
-        | SProc::Check { then, .. }
-        | SProc::Begin { then, .. }
-        | SProc::End { then, .. }
-        | SProc::EndMany { then, .. }
-        | SProc::Cast { then, .. }
-        | SProc::New { then, .. } => nodes_with(more, then),
+        SProc::Case { parts, .. } => {
+            nodes_with(nodes_with(more, &parts.on_left), &parts.on_right)
+        }
+        SProc::OutThen { parts, .. } => nodes_with(more + 1, &parts.then),
+        SProc::Inp { parts, .. } | SProc::Repeat { parts, .. } => nodes_with(more, &parts.then),
+        SProc::Split { parts, .. } => nodes_with(more, &parts.then),
+        SProc::Match { parts, .. } => nodes_with(more, &parts.then),
+        SProc::Decrypt { parts, .. } => nodes_with(more, &parts.then),
+        SProc::Check { parts, .. } => nodes_with(more, &parts.then),
+        SProc::Begin { parts, .. } | SProc::End { parts, .. } | SProc::EndMany { parts, .. } =>
+            nodes_with(more, &parts.then),
+        SProc::Cast { parts, .. } => nodes_with(more, &parts.then),
+        SProc::New { parts, .. } => nodes_with(more, &parts.then),
     }
 }
 

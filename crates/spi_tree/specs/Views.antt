@@ -80,24 +80,24 @@ abbrev pub field_of : SField → t.Field
 field_of f = record { name = f.name; ty = ty_of f.ty }
 
 abbrev pub proc_of : SProc → t.Proc
-proc_of (sproc.Par' p a q b s) = t.par s (proc_of a) (proc_of b)
-proc_of (sproc.Out m n s) = t.out s (msg_of m) (msg_of n)
-proc_of (sproc.OutThen' m n p a s) = t.out_then s (msg_of m) (msg_of n) (proc_of a)
-proc_of (sproc.Inp' m x a p b s) = t.inp s (msg_of m) x (ty_of a) (proc_of b)
-proc_of (sproc.Repeat' m x a p b s) = t.repeat s (msg_of m) x (ty_of a) (proc_of b)
-proc_of (sproc.Split' m x a y b p q s) = t.split s (msg_of m) x (ty_of a) y (ty_of b) (proc_of q)
-proc_of (sproc.Match' m x a n y b p q s) = t.match s (msg_of m) x (ty_of a) (msg_of n) y (ty_of b) (proc_of q)
-proc_of (sproc.Case' m x a p b y c q d s) =
+proc_of (sproc.Par' p a b s) = t.par s (proc_of a) (proc_of b)
+proc_of (sproc.Out p s) = t.out s (msg_of p.value.channel) (msg_of p.value.datum)
+proc_of (sproc.OutThen' p m n a s) = t.out_then s (msg_of m) (msg_of n) (proc_of a)
+proc_of (sproc.Inp' p m x a b s) = t.inp s (msg_of m) x (ty_of a) (proc_of b)
+proc_of (sproc.Repeat' p m x a b s) = t.repeat s (msg_of m) x (ty_of a) (proc_of b)
+proc_of (sproc.Split' p m x a y b q s) = t.split s (msg_of m) x (ty_of a) y (ty_of b) (proc_of q)
+proc_of (sproc.Match' p m x a n y b q s) = t.match s (msg_of m) x (ty_of a) (msg_of n) y (ty_of b) (proc_of q)
+proc_of (sproc.Case' p m x a b y c d s) =
     t.case s (msg_of m) x (ty_of a) (proc_of b) y (ty_of c) (proc_of d)
-proc_of (sproc.Decrypt' m x a n p b s) = t.decrypt s (msg_of m) x (ty_of a) (msg_of n) (proc_of b)
-proc_of (sproc.Check' m n p a s) = t.check s (msg_of m) (msg_of n) (proc_of a)
-proc_of (sproc.Begin' m p a s) = t.begin s (msg_of m) (proc_of a)
-proc_of (sproc.End' m p a s) = t.end s (msg_of m) (proc_of a)
-proc_of (sproc.EndMany' m p a s) = t.end_many s (msg_of m) (proc_of a)
-proc_of (sproc.Cast' m x a p b s) = t.cast s (msg_of m) x (ty_of a) (proc_of b)
-proc_of (sproc.New' x a p b s) = t.new s x (ty_of a) (proc_of b)
+proc_of (sproc.Decrypt' p m x a n b s) = t.decrypt s (msg_of m) x (ty_of a) (msg_of n) (proc_of b)
+proc_of (sproc.Check' p m n a s) = t.check s (msg_of m) (msg_of n) (proc_of a)
+proc_of (sproc.Begin' p m a s) = t.begin s (msg_of m) (proc_of a)
+proc_of (sproc.End' p m a s) = t.end s (msg_of m) (proc_of a)
+proc_of (sproc.EndMany' p m a s) = t.end_many s (msg_of m) (proc_of a)
+proc_of (sproc.Cast' p m x a b s) = t.cast s (msg_of m) x (ty_of a) (proc_of b)
+proc_of (sproc.New' p x a b s) = t.new s x (ty_of a) (proc_of b)
 proc_of (sproc.Stop s) = t.stop s
-proc_of (sproc.Group' p a q b s) = t.group s (proc_of a) (proc_of b)
+proc_of (sproc.Group' p a b s) = t.group s (proc_of a) (proc_of b)
 
 abbrev pub decl_of : Decl → t.Declared
 decl_of (sdecl.Free w ws s) = t.free s w ws.items

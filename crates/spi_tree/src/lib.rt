@@ -10,8 +10,9 @@ mod tree;
 use std::alloc::AllocError;
 pub use tokens::tokens_of;
 pub use tree::{
-    Decl, Last, More, MsgParts, SAtom, SDeriv, SField, SMsg, SProc, SStep, STy, SWord, Tree,
-    TyParts,
+    BothParts, CaseParts, CastParts, CheckParts, Decl, DecryptParts, EventParts, InpParts, Last,
+    MatchParts, More, MsgParts, NewParts, OutParts, OutThenParts, SAtom, SDeriv, SField, SMsg,
+    SProc, SStep, STy, SWord, SplitParts, Tree, TyParts,
 };
 
 /// Memory ran out.

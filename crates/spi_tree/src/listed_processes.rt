@@ -135,22 +135,22 @@ fn put_opening(alloc: Global, out: &mut Vec<Kind>, process: &SProc) -> Result<()
 {
     match process {
         SProc::Par { .. } => Ok(()),
-        SProc::Out { channel, .. } => put_about(alloc, out, Reserved::Out, channel),
-        SProc::OutThen { channel, .. } => put_about(alloc, out, Reserved::Out, channel),
-        SProc::Inp { channel, .. } => put_about(alloc, out, Reserved::Inp, channel),
-        SProc::Repeat { channel, .. } => {
+        SProc::Out { parts, .. } => put_about(alloc, out, Reserved::Out, &parts.channel),
+        SProc::OutThen { parts, .. } => put_about(alloc, out, Reserved::Out, &parts.channel),
+        SProc::Inp { parts, .. } => put_about(alloc, out, Reserved::Inp, &parts.channel),
+        SProc::Repeat { parts, .. } => {
             put_reserved(out, Reserved::Repeat)?;
-            put_about(alloc, out, Reserved::Inp, channel)
+            put_about(alloc, out, Reserved::Inp, &parts.channel)
         }
-        SProc::Split { whole, .. } => put_about(alloc, out, Reserved::Split, whole),
-        SProc::Match { whole, .. } => put_about(alloc, out, Reserved::Match, whole),
-        SProc::Case { whole, .. } => put_about(alloc, out, Reserved::Case, whole),
-        SProc::Decrypt { whole, .. } => put_about(alloc, out, Reserved::Decrypt, whole),
-        SProc::Check { whole, .. } => put_about(alloc, out, Reserved::Check, whole),
-        SProc::Begin { label, .. } => put_about(alloc, out, Reserved::Begin, label),
-        SProc::End { label, .. } => put_about(alloc, out, Reserved::End, label),
-        SProc::EndMany { label, .. } => put_about(alloc, out, Reserved::EndMany, label),
-        SProc::Cast { whole, .. } => put_about(alloc, out, Reserved::Cast, whole),
+        SProc::Split { parts, .. } => put_about(alloc, out, Reserved::Split, &parts.whole),
+        SProc::Match { parts, .. } => put_about(alloc, out, Reserved::Match, &parts.whole),
+        SProc::Case { parts, .. } => put_about(alloc, out, Reserved::Case, &parts.whole),
+        SProc::Decrypt { parts, .. } => put_about(alloc, out, Reserved::Decrypt, &parts.whole),
+        SProc::Check { parts, .. } => put_about(alloc, out, Reserved::Check, &parts.whole),
+        SProc::Begin { parts, .. } => put_about(alloc, out, Reserved::Begin, &parts.label),
+        SProc::End { parts, .. } => put_about(alloc, out, Reserved::End, &parts.label),
+        SProc::EndMany { parts, .. } => put_about(alloc, out, Reserved::EndMany, &parts.label),
+        SProc::Cast { parts, .. } => put_about(alloc, out, Reserved::Cast, &parts.whole),
         SProc::New { .. } => put_reserved(out, Reserved::New),
         SProc::Stop { .. } => put_reserved(out, Reserved::Stop),
         SProc::Group { .. } => put_mark(out, Mark::ParenOpen),
@@ -163,39 +163,47 @@ fn put_binding(alloc: Global, out: &mut Vec<Kind>, process: &SProc) -> Result<()
 {
     match process {
         SProc::Par { .. } => Ok(()),
-        SProc::Out { datum, .. } => put_message(alloc, out, datum),
-        SProc::OutThen { datum, .. } => put_ended(alloc, out, datum),
-        SProc::Inp { name, ty, .. } => put_binder(alloc, out, name, ty),
-        SProc::Repeat { name, ty, .. } => put_binder(alloc, out, name, ty),
-        SProc::Split {
-            left,
-            left_ty,
-            right,
-            right_ty,
-            ..
-        } => put_both(alloc, out, left, left_ty, right, right_ty),
-        SProc::Match {
-            left,
-            left_ty,
-            equal,
-            right,
-            right_ty,
-            ..
-        } => put_matched(alloc, out, left, left_ty, equal, right, right_ty),
-        SProc::Case { left, left_ty, .. } => put_side(alloc, out, Reserved::Inl, left, left_ty),
-        SProc::Decrypt { name, ty, key, .. } => put_open(alloc, out, name, ty, key),
-        SProc::Check { nonce, .. } => {
+        SProc::Out { parts, .. } => put_message(alloc, out, &parts.datum),
+        SProc::OutThen { parts, .. } => put_ended(alloc, out, &parts.datum),
+        SProc::Inp { parts, .. } => put_binder(alloc, out, &parts.name, &parts.ty),
+        SProc::Repeat { parts, .. } => put_binder(alloc, out, &parts.name, &parts.ty),
+        SProc::Split { parts, .. } => put_both(
+            alloc,
+            out,
+            &parts.left,
+            &parts.left_ty,
+            &parts.right,
+            &parts.right_ty,
+        ),
+        SProc::Match { parts, .. } => put_matched(
+            alloc,
+            out,
+            &parts.left,
+            &parts.left_ty,
+            &parts.equal,
+            &parts.right,
+            &parts.right_ty,
+        ),
+        SProc::Case { parts, .. } => put_side(
+            alloc,
+            out,
+            Reserved::Inl,
+            &parts.left,
+            &parts.left_ty,
+        ),
+        SProc::Decrypt { parts, .. } => put_open(alloc, out, &parts.name, &parts.ty, &parts.key),
+        SProc::Check { parts, .. } => {
             put_reserved(out, Reserved::Is)?;
-            put_ended(alloc, out, nonce)
+            put_ended(alloc, out, &parts.nonce)
         }
         SProc::Begin { .. } => put_mark(out, Mark::Semicolon),
         SProc::End { .. } => put_mark(out, Mark::Semicolon),
         SProc::EndMany { .. } => put_mark(out, Mark::Semicolon),
-        SProc::Cast { name, ty, .. } => {
+        SProc::Cast { parts, .. } => {
             put_reserved(out, Reserved::Is)?;
-            put_binder(alloc, out, name, ty)
+            put_binder(alloc, out, &parts.name, &parts.ty)
         }
-        SProc::New { name, ty, .. } => put_binder(alloc, out, name, ty),
+        SProc::New { parts, .. } => put_binder(alloc, out, &parts.name, &parts.ty),
         SProc::Stop { .. } => Ok(()),
         SProc::Group { .. } => Ok(()),
     }
@@ -215,40 +223,34 @@ pub fn put_process(alloc: Global, out: &mut Vec<Kind>, process: &SProc) -> Resul
 {
     put_leading(alloc, out, process)?;
     match process {
-        SProc::Par { first, rest, .. } => {
-            put_process(alloc, out, first)?;
+        SProc::Par { parts, .. } => {
+            put_process(alloc, out, &parts.first)?;
             put_mark(out, Mark::Bar)?;
-            put_process(alloc, out, rest)
+            put_process(alloc, out, &parts.rest)
         }
         SProc::Out { .. } => Ok(()),
-        SProc::OutThen { then, .. } => put_process(alloc, out, then),
-        SProc::Inp { then, .. } => put_process(alloc, out, then),
-        SProc::Repeat { then, .. } => put_process(alloc, out, then),
-        SProc::Split { then, .. } => put_process(alloc, out, then),
-        SProc::Match { then, .. } => put_process(alloc, out, then),
-        SProc::Case {
-            on_left,
-            right,
-            right_ty,
-            on_right,
-            ..
-        } => {
-            put_process(alloc, out, on_left)?;
-            put_side(alloc, out, Reserved::Inr, right, right_ty)?;
-            put_process(alloc, out, on_right)
+        SProc::OutThen { parts, .. } => put_process(alloc, out, &parts.then),
+        SProc::Inp { parts, .. } => put_process(alloc, out, &parts.then),
+        SProc::Repeat { parts, .. } => put_process(alloc, out, &parts.then),
+        SProc::Split { parts, .. } => put_process(alloc, out, &parts.then),
+        SProc::Match { parts, .. } => put_process(alloc, out, &parts.then),
+        SProc::Case { parts, .. } => {
+            put_process(alloc, out, &parts.on_left)?;
+            put_side(alloc, out, Reserved::Inr, &parts.right, &parts.right_ty)?;
+            put_process(alloc, out, &parts.on_right)
         }
-        SProc::Decrypt { then, .. } => put_process(alloc, out, then),
-        SProc::Check { then, .. } => put_process(alloc, out, then),
-        SProc::Begin { then, .. } => put_process(alloc, out, then),
-        SProc::End { then, .. } => put_process(alloc, out, then),
-        SProc::EndMany { then, .. } => put_process(alloc, out, then),
-        SProc::Cast { then, .. } => put_process(alloc, out, then),
-        SProc::New { then, .. } => put_process(alloc, out, then),
+        SProc::Decrypt { parts, .. } => put_process(alloc, out, &parts.then),
+        SProc::Check { parts, .. } => put_process(alloc, out, &parts.then),
+        SProc::Begin { parts, .. } => put_process(alloc, out, &parts.then),
+        SProc::End { parts, .. } => put_process(alloc, out, &parts.then),
+        SProc::EndMany { parts, .. } => put_process(alloc, out, &parts.then),
+        SProc::Cast { parts, .. } => put_process(alloc, out, &parts.then),
+        SProc::New { parts, .. } => put_process(alloc, out, &parts.then),
         SProc::Stop { .. } => Ok(()),
-        SProc::Group { first, rest, .. } => {
-            put_process(alloc, out, first)?;
+        SProc::Group { parts, .. } => {
+            put_process(alloc, out, &parts.first)?;
             put_mark(out, Mark::Bar)?;
-            put_process(alloc, out, rest)?;
+            put_process(alloc, out, &parts.rest)?;
             put_mark(out, Mark::ParenClose)
         }
     }

@@ -240,122 +240,82 @@ impl Drop for SAtom {
     }
 }
 
-/// A process.
+/// A process. The parts of its form lie in a box of just their size, so that a small form takes little memory.
+#[cycle(processes)]
 pub enum SProc {
     /// `P | Q`
     Par {
-        first: Box<SProc>,
-        rest: Box<SProc>,
+        parts: Box<BothParts>,
         span: Span,
     },
     /// `out M N`
     Out {
-        channel: SMsg,
-        datum: SMsg,
+        parts: Box<OutParts>,
         span: Span,
     },
     /// `out M N; P`
     OutThen {
-        channel: SMsg,
-        datum: SMsg,
-        then: Box<SProc>,
+        parts: Box<OutThenParts>,
         span: Span,
     },
     /// `inp M (x: T); P`
     Inp {
-        channel: SMsg,
-        name: SWord,
-        ty: STy,
-        then: Box<SProc>,
+        parts: Box<InpParts>,
         span: Span,
     },
     /// `repeat inp M (x: T); P`
     Repeat {
-        channel: SMsg,
-        name: SWord,
-        ty: STy,
-        then: Box<SProc>,
+        parts: Box<InpParts>,
         span: Span,
     },
     /// `split M is (x: T, y: U); P`
     Split {
-        whole: SMsg,
-        left: SWord,
-        left_ty: STy,
-        right: SWord,
-        right_ty: STy,
-        then: Box<SProc>,
+        parts: Box<SplitParts>,
         span: Span,
     },
     /// `match M is (x: T = N, y: U); P`
     Match {
-        whole: SMsg,
-        left: SWord,
-        left_ty: STy,
-        equal: SMsg,
-        right: SWord,
-        right_ty: STy,
-        then: Box<SProc>,
+        parts: Box<MatchParts>,
         span: Span,
     },
     /// `case M is inl (x: T); P is inr (y: U); Q`
     Case {
-        whole: SMsg,
-        left: SWord,
-        left_ty: STy,
-        on_left: Box<SProc>,
-        right: SWord,
-        right_ty: STy,
-        on_right: Box<SProc>,
+        parts: Box<CaseParts>,
         span: Span,
     },
     /// `decrypt M is {x: T}N; P`
     Decrypt {
-        whole: SMsg,
-        name: SWord,
-        ty: STy,
-        key: SMsg,
-        then: Box<SProc>,
+        parts: Box<DecryptParts>,
         span: Span,
     },
     /// `check M is N; P`
     Check {
-        whole: SMsg,
-        nonce: SMsg,
-        then: Box<SProc>,
+        parts: Box<CheckParts>,
         span: Span,
     },
     /// `begin L; P`
     Begin {
-        label: SMsg,
-        then: Box<SProc>,
+        parts: Box<EventParts>,
         span: Span,
     },
     /// `end L; P`
     End {
-        label: SMsg,
-        then: Box<SProc>,
+        parts: Box<EventParts>,
         span: Span,
     },
     /// `endmany L; P`, in version 2
     EndMany {
-        label: SMsg,
-        then: Box<SProc>,
+        parts: Box<EventParts>,
         span: Span,
     },
     /// `cast M is (x: T); P`
     Cast {
-        whole: SMsg,
-        name: SWord,
-        ty: STy,
-        then: Box<SProc>,
+        parts: Box<CastParts>,
         span: Span,
     },
     /// `new (x: T); P`
     New {
-        name: SWord,
-        ty: STy,
-        then: Box<SProc>,
+        parts: Box<NewParts>,
         span: Span,
     },
     /// `stop`
@@ -364,123 +324,277 @@ pub enum SProc {
     },
     /// `(P | Q)`
     Group {
-        first: Box<SProc>,
-        rest: Box<SProc>,
+        parts: Box<BothParts>,
         span: Span,
     },
 }
 
 impl Drop for SProc {
+    #[cycle(processes)]
     fn drop(self) {
         match self {
-            SProc::Par {
-                first: _,
-                rest: _,
-                span: _,
-            } => {}
-            SProc::Out {
-                channel: _,
-                datum: _,
-                span: _,
-            } => {}
-            SProc::OutThen {
-                channel: _,
-                datum: _,
-                then: _,
-                span: _,
-            } => {}
-            SProc::Inp {
-                channel: _,
-                name: _,
-                ty: _,
-                then: _,
-                span: _,
-            } => {}
-            SProc::Repeat {
-                channel: _,
-                name: _,
-                ty: _,
-                then: _,
-                span: _,
-            } => {}
-            SProc::Split {
-                whole: _,
-                left: _,
-                left_ty: _,
-                right: _,
-                right_ty: _,
-                then: _,
-                span: _,
-            } => {}
-            SProc::Match {
-                whole: _,
-                left: _,
-                left_ty: _,
-                equal: _,
-                right: _,
-                right_ty: _,
-                then: _,
-                span: _,
-            } => {}
-            SProc::Case {
-                whole: _,
-                left: _,
-                left_ty: _,
-                on_left: _,
-                right: _,
-                right_ty: _,
-                on_right: _,
-                span: _,
-            } => {}
-            SProc::Decrypt {
-                whole: _,
-                name: _,
-                ty: _,
-                key: _,
-                then: _,
-                span: _,
-            } => {}
-            SProc::Check {
-                whole: _,
-                nonce: _,
-                then: _,
-                span: _,
-            } => {}
-            SProc::Begin {
-                label: _,
-                then: _,
-                span: _,
-            } => {}
-            SProc::End {
-                label: _,
-                then: _,
-                span: _,
-            } => {}
-            SProc::EndMany {
-                label: _,
-                then: _,
-                span: _,
-            } => {}
-            SProc::Cast {
-                whole: _,
-                name: _,
-                ty: _,
-                then: _,
-                span: _,
-            } => {}
-            SProc::New {
-                name: _,
-                ty: _,
-                then: _,
-                span: _,
-            } => {}
+            SProc::Par { parts: _, span: _ } => {}
+            SProc::Out { parts: _, span: _ } => {}
+            SProc::OutThen { parts: _, span: _ } => {}
+            SProc::Inp { parts: _, span: _ } => {}
+            SProc::Repeat { parts: _, span: _ } => {}
+            SProc::Split { parts: _, span: _ } => {}
+            SProc::Match { parts: _, span: _ } => {}
+            SProc::Case { parts: _, span: _ } => {}
+            SProc::Decrypt { parts: _, span: _ } => {}
+            SProc::Check { parts: _, span: _ } => {}
+            SProc::Begin { parts: _, span: _ } => {}
+            SProc::End { parts: _, span: _ } => {}
+            SProc::EndMany { parts: _, span: _ } => {}
+            SProc::Cast { parts: _, span: _ } => {}
+            SProc::New { parts: _, span: _ } => {}
             SProc::Stop { span: _ } => {}
-            SProc::Group {
-                first: _,
-                rest: _,
-                span: _,
-            } => {}
+            SProc::Group { parts: _, span: _ } => {}
         }
+    }
+}
+
+/// The two processes of a composition.
+#[cycle(processes)]
+pub struct BothParts {
+    pub first: SProc,
+    pub rest: SProc,
+}
+
+impl Drop for BothParts {
+    #[cycle(processes)]
+    fn drop(self) {
+        let BothParts { first: _, rest: _ } = self;
+    }
+}
+
+/// The messages of an output with nothing behind it.
+pub struct OutParts {
+    pub channel: SMsg,
+    pub datum: SMsg,
+}
+
+impl Drop for OutParts {
+    fn drop(self) {
+        let OutParts {
+            channel: _,
+            datum: _,
+        } = self;
+    }
+}
+
+/// The parts of an output with a process behind it.
+#[cycle(processes)]
+pub struct OutThenParts {
+    pub channel: SMsg,
+    pub datum: SMsg,
+    pub then: SProc,
+}
+
+impl Drop for OutThenParts {
+    #[cycle(processes)]
+    fn drop(self) {
+        let OutThenParts {
+            channel: _,
+            datum: _,
+            then: _,
+        } = self;
+    }
+}
+
+/// The parts of an input, repeated or not.
+#[cycle(processes)]
+pub struct InpParts {
+    pub channel: SMsg,
+    pub name: SWord,
+    pub ty: STy,
+    pub then: SProc,
+}
+
+impl Drop for InpParts {
+    #[cycle(processes)]
+    fn drop(self) {
+        let InpParts {
+            channel: _,
+            name: _,
+            ty: _,
+            then: _,
+        } = self;
+    }
+}
+
+/// The parts of a split.
+#[cycle(processes)]
+pub struct SplitParts {
+    pub whole: SMsg,
+    pub left: SWord,
+    pub left_ty: STy,
+    pub right: SWord,
+    pub right_ty: STy,
+    pub then: SProc,
+}
+
+impl Drop for SplitParts {
+    #[cycle(processes)]
+    fn drop(self) {
+        let SplitParts {
+            whole: _,
+            left: _,
+            left_ty: _,
+            right: _,
+            right_ty: _,
+            then: _,
+        } = self;
+    }
+}
+
+/// The parts of a match.
+#[cycle(processes)]
+pub struct MatchParts {
+    pub whole: SMsg,
+    pub left: SWord,
+    pub left_ty: STy,
+    pub equal: SMsg,
+    pub right: SWord,
+    pub right_ty: STy,
+    pub then: SProc,
+}
+
+impl Drop for MatchParts {
+    #[cycle(processes)]
+    fn drop(self) {
+        let MatchParts {
+            whole: _,
+            left: _,
+            left_ty: _,
+            equal: _,
+            right: _,
+            right_ty: _,
+            then: _,
+        } = self;
+    }
+}
+
+/// The parts of a case.
+#[cycle(processes)]
+pub struct CaseParts {
+    pub whole: SMsg,
+    pub left: SWord,
+    pub left_ty: STy,
+    pub on_left: SProc,
+    pub right: SWord,
+    pub right_ty: STy,
+    pub on_right: SProc,
+}
+
+impl Drop for CaseParts {
+    #[cycle(processes)]
+    fn drop(self) {
+        let CaseParts {
+            whole: _,
+            left: _,
+            left_ty: _,
+            on_left: _,
+            right: _,
+            right_ty: _,
+            on_right: _,
+        } = self;
+    }
+}
+
+/// The parts of a decryption.
+#[cycle(processes)]
+pub struct DecryptParts {
+    pub whole: SMsg,
+    pub name: SWord,
+    pub ty: STy,
+    pub key: SMsg,
+    pub then: SProc,
+}
+
+impl Drop for DecryptParts {
+    #[cycle(processes)]
+    fn drop(self) {
+        let DecryptParts {
+            whole: _,
+            name: _,
+            ty: _,
+            key: _,
+            then: _,
+        } = self;
+    }
+}
+
+/// The parts of a check of a nonce.
+#[cycle(processes)]
+pub struct CheckParts {
+    pub whole: SMsg,
+    pub nonce: SMsg,
+    pub then: SProc,
+}
+
+impl Drop for CheckParts {
+    #[cycle(processes)]
+    fn drop(self) {
+        let CheckParts {
+            whole: _,
+            nonce: _,
+            then: _,
+        } = self;
+    }
+}
+
+/// The label of an event, and what goes on behind it.
+#[cycle(processes)]
+pub struct EventParts {
+    pub label: SMsg,
+    pub then: SProc,
+}
+
+impl Drop for EventParts {
+    #[cycle(processes)]
+    fn drop(self) {
+        let EventParts { label: _, then: _ } = self;
+    }
+}
+
+/// The parts of a cast.
+#[cycle(processes)]
+pub struct CastParts {
+    pub whole: SMsg,
+    pub name: SWord,
+    pub ty: STy,
+    pub then: SProc,
+}
+
+impl Drop for CastParts {
+    #[cycle(processes)]
+    fn drop(self) {
+        let CastParts {
+            whole: _,
+            name: _,
+            ty: _,
+            then: _,
+        } = self;
+    }
+}
+
+/// The parts of a new name.
+#[cycle(processes)]
+pub struct NewParts {
+    pub name: SWord,
+    pub ty: STy,
+    pub then: SProc,
+}
+
+impl Drop for NewParts {
+    #[cycle(processes)]
+    fn drop(self) {
+        let NewParts {
+            name: _,
+            ty: _,
+            then: _,
+        } = self;
     }
 }
 

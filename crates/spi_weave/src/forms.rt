@@ -11,7 +11,10 @@ use crate::copies::{message, ty, word};
 use spi_heading::Named;
 use spi_narrate::Prefix;
 use spi_text::Span;
-use spi_tree::{SMsg, SProc, STy, SWord};
+use spi_tree::{
+    CastParts, CheckParts, DecryptParts, EventParts, InpParts, MatchParts, NewParts, OutThenParts,
+    SMsg, SProc, STy, SWord, SplitParts,
+};
 use std::alloc::Global;
 
 /// A process, or memory ran out.
@@ -21,32 +24,35 @@ type Made = Result<SProc, NoMemory>;
 #[derive(Drop)]
 pub struct Form {
     alloc: Global,
-    then: Box<SProc>,
+    then: SProc,
     span: Span,
 }
 
 impl Form {
     /// A form at `span`, before the process that follows.
-    pub fn before(alloc: Global, then: SProc, span: Span) -> Result<Form, NoMemory>
-        ensures { IfOk result (λ form. (form.then.value ≡ then) × (form.span ≡ span)) }
+    pub fn before(alloc: Global, then: SProc, span: Span) -> Form
+        ensures follows { result.then ≡ then }
+        ensures place { result.span ≡ span }
     {
-        let then = Box::new(alloc, then)?;
-        Ok(Form { alloc, then, span })
+        Form { alloc, then, span }
     }
 
     fn split(self, whole: &SMsg, left: &Named, right: &Named) -> Made
         ensures { IfOk result
             (λ p. proc_of p
             ≡ t.split self.span (msg_of whole.now) left.now.name (ty_of left.now.ty) right.now.name
-            (ty_of right.now.ty) (proc_of self.then.value)) }
+            (ty_of right.now.ty) (proc_of self.then)) }
     {
-        Ok(SProc::Split {
+        let parts = SplitParts {
             whole: message(self.alloc, whole)?,
             left: word(self.alloc, &left.name)?,
             left_ty: ty(self.alloc, &left.ty)?,
             right: word(self.alloc, &right.name)?,
             right_ty: ty(self.alloc, &right.ty)?,
             then: self.then,
+        };
+        Ok(SProc::Split {
+            parts: Box::new(self.alloc, parts)?,
             span: self.span,
         })
     }
@@ -55,9 +61,9 @@ impl Form {
         ensures { IfOk result
             (λ p. proc_of p
             ≡ t.match self.span (msg_of whole.now) left.now.name (ty_of left.now.ty) (msg_of equal.now)
-            right.now.name (ty_of right.now.ty) (proc_of self.then.value)) }
+            right.now.name (ty_of right.now.ty) (proc_of self.then)) }
     {
-        Ok(SProc::Match {
+        let parts = MatchParts {
             whole: message(self.alloc, whole)?,
             left: word(self.alloc, &left.name)?,
             left_ty: ty(self.alloc, &left.ty)?,
@@ -65,6 +71,9 @@ impl Form {
             right: word(self.alloc, &right.name)?,
             right_ty: ty(self.alloc, &right.ty)?,
             then: self.then,
+        };
+        Ok(SProc::Match {
+            parts: Box::new(self.alloc, parts)?,
             span: self.span,
         })
     }
@@ -73,14 +82,17 @@ impl Form {
         ensures { IfOk result
             (λ p. proc_of p
             ≡ t.decrypt self.span (msg_of whole.now) bound.now.name (ty_of bound.now.ty) (msg_of key.now)
-            (proc_of self.then.value)) }
+            (proc_of self.then)) }
     {
-        Ok(SProc::Decrypt {
+        let parts = DecryptParts {
             whole: message(self.alloc, whole)?,
             name: word(self.alloc, &bound.name)?,
             ty: ty(self.alloc, &bound.ty)?,
             key: message(self.alloc, key)?,
             then: self.then,
+        };
+        Ok(SProc::Decrypt {
+            parts: Box::new(self.alloc, parts)?,
             span: self.span,
         })
     }
@@ -88,12 +100,15 @@ impl Form {
     fn check(self, whole: &SMsg, nonce: &SMsg) -> Made
         ensures { IfOk result
             (λ p. proc_of p
-            ≡ t.check self.span (msg_of whole.now) (msg_of nonce.now) (proc_of self.then.value)) }
+            ≡ t.check self.span (msg_of whole.now) (msg_of nonce.now) (proc_of self.then)) }
     {
-        Ok(SProc::Check {
+        let parts = CheckParts {
             whole: message(self.alloc, whole)?,
             nonce: message(self.alloc, nonce)?,
             then: self.then,
+        };
+        Ok(SProc::Check {
+            parts: Box::new(self.alloc, parts)?,
             span: self.span,
         })
     }
@@ -102,26 +117,44 @@ impl Form {
         ensures { IfOk result
             (λ p. proc_of p
             ≡ t.cast self.span (msg_of whole.now) bound.now.name (ty_of bound.now.ty)
-            (proc_of self.then.value)) }
+            (proc_of self.then)) }
     {
-        Ok(SProc::Cast {
+        let parts = CastParts {
             whole: message(self.alloc, whole)?,
             name: word(self.alloc, &bound.name)?,
             ty: ty(self.alloc, &bound.ty)?,
             then: self.then,
+        };
+        Ok(SProc::Cast {
+            parts: Box::new(self.alloc, parts)?,
             span: self.span,
         })
+    }
+
+    /// The parts of an event.
+    fn event(self, label: &SMsg) -> Result<Box<EventParts>, NoMemory>
+        ensures { IfOk result
+            (λ parts. (msg_of parts.value.label ≡ msg_of label.now) × (parts.value.then ≡ self.then)) }
+    {
+        let parts = EventParts {
+            label: message(self.alloc, label)?,
+            then: self.then,
+        };
+        Ok(Box::new(self.alloc, parts)?)
     }
 
     /// `new (x: T); P`
     pub fn new(self, name: &SWord, a: &STy) -> Made
         ensures { IfOk result
-            (λ p. proc_of p ≡ t.new self.span name.now (ty_of a.now) (proc_of self.then.value)) }
+            (λ p. proc_of p ≡ t.new self.span name.now (ty_of a.now) (proc_of self.then)) }
     {
-        Ok(SProc::New {
+        let parts = NewParts {
             name: word(self.alloc, name)?,
             ty: ty(self.alloc, a)?,
             then: self.then,
+        };
+        Ok(SProc::New {
+            parts: Box::new(self.alloc, parts)?,
             span: self.span,
         })
     }
@@ -131,7 +164,7 @@ impl Form {
 pub fn prefixed(alloc: Global, span: Span, prefix: &Prefix, then: SProc) -> Result<SProc, NoMemory>
     ensures { IfOk result (λ p. proc_of p ≡ prefixed span (prefix_of prefix.now) (proc_of then)) }
 {
-    let form = Form::before(alloc, then, span)?;
+    let form = Form::before(alloc, then, span);
     match prefix {
         Prefix::Split {
             whole,
@@ -154,18 +187,15 @@ pub fn prefixed(alloc: Global, span: Span, prefix: &Prefix, then: SProc) -> Resu
         } => form.decrypt(whole, bound, key),
         Prefix::Check { whole, nonce, .. } => form.check(whole, nonce),
         Prefix::Begin { label, .. } => Ok(SProc::Begin {
-            label: message(alloc, label)?,
-            then: form.then,
+            parts: form.event(label)?,
             span,
         }),
         Prefix::End { label, .. } => Ok(SProc::End {
-            label: message(alloc, label)?,
-            then: form.then,
+            parts: form.event(label)?,
             span,
         }),
         Prefix::EndMany { label, .. } => Ok(SProc::EndMany {
-            label: message(alloc, label)?,
-            then: form.then,
+            parts: form.event(label)?,
             span,
         }),
         Prefix::Cast { whole, bound, .. } => form.cast(whole, bound),
@@ -191,11 +221,13 @@ pub fn sent(
 ) -> Result<SProc, NoMemory>
     ensures { IfOk result (λ p. proc_of p ≡ sent true span channel.now (msg_of datum.now) (proc_of then)) }
 {
-    let then = Box::new(alloc, then)?;
-    Ok(SProc::OutThen {
+    let parts = OutThenParts {
         channel: spelled(alloc, channel)?,
         datum: message(alloc, datum)?,
         then,
+    };
+    Ok(SProc::OutThen {
+        parts: Box::new(alloc, parts)?,
         span,
     })
 }
@@ -210,12 +242,14 @@ pub fn received(
 ) -> Result<SProc, NoMemory>
     ensures { IfOk result (λ p. proc_of p ≡ received true span channel.now name.now (proc_of then)) }
 {
-    let then = Box::new(alloc, then)?;
-    Ok(SProc::Inp {
+    let parts = InpParts {
         channel: spelled(alloc, channel)?,
         name: word(alloc, name)?,
         ty: STy::Un { span: name.span },
         then,
+    };
+    Ok(SProc::Inp {
+        parts: Box::new(alloc, parts)?,
         span,
     })
 }

@@ -11,7 +11,7 @@ use crate::forms::{Form, prefixed, received, sent};
 use spi_heading::Shared;
 use spi_narrate::Line;
 use spi_text::Span;
-use spi_tree::{SProc, SWord};
+use spi_tree::{BothParts, SProc, SWord};
 use std::alloc::Global;
 
 /// Whether two words are spelled in the same way.
@@ -77,7 +77,7 @@ pub fn sharing(alloc: Global, shared: &[Shared], after: SProc) -> Result<SProc, 
     let mut process = after;
     for at in (0..shared.len()).rev() {
         let Shared { name, ty, span } = &shared[at];
-        process = Form::before(alloc, process, *span)?.new(name, ty)?;
+        process = Form::before(alloc, process, *span).new(name, ty)?;
     }
     Ok(process)
 }
@@ -98,21 +98,17 @@ pub fn roles_beside(
     let Some((next, others)) = more.split_first() else {
         return role_process(alloc, first, lines);
     };
-    let rest = Box::new(alloc, roles_beside(alloc, lines, next, others, false)?)?;
-    let process = Box::new(alloc, role_process(alloc, first, lines)?)?;
+    let rest = roles_beside(alloc, lines, next, others, false)?;
+    let parts = BothParts {
+        first: role_process(alloc, first, lines)?,
+        rest,
+    };
+    let parts = Box::new(alloc, parts)?;
     let span = first.span;
     if whole {
-        Ok(SProc::Group {
-            first: process,
-            rest,
-            span,
-        })
+        Ok(SProc::Group { parts, span })
     } else {
-        Ok(SProc::Par {
-            first: process,
-            rest,
-            span,
-        })
+        Ok(SProc::Par { parts, span })
     }
 }
 

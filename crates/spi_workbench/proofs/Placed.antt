@@ -3,7 +3,7 @@ use Rattle.std.proofs.Common.{◌≡◌, ℕ, ◌+◌, List, [], ◌∷◌, ◌+
 use Rattle.std.proofs.lemmas.List.{map_push}
 use Rattle.spi_text.specs.declared.lines.Span.{Span}
 use Rattle.spi_tree.specs.declared.tree.SWord.{SWord}
-use Rattle.spi_tree.specs.declared.tree.STy.{STy}
+use Rattle.spi_tree.specs.declared.tree.NewParts.{NewParts}
 use Rattle.spi_tree.specs.declared.tree.SProc.{SProc}
 use Rattle.spi_tree.specs.declared.tree.SProc.TheVariants as sproc
 use Rattle.spi_tree.specs.Trees as t
@@ -40,23 +40,23 @@ placed_behind s x a q r part n m e ih (y ∷ ss) p l h =
     let g : r ≡ behind_shared ss part = ih ss p (omega (arith, e, l)) f in
     cc
 
-pub not_behind : (r : SProc) (n : ℕ) → (n ≡ 0 → ⊥) → ((x : SWord) → (a : STy) → (b : Box SProc) → (s : Span) → r ≡ sproc.New x a b s → ⊥)
+pub not_behind : (r : SProc) (n : ℕ) → (n ≡ 0 → ⊥) → ((b : Box NewParts) → (s : Span) → r ≡ sproc.New b s → ⊥)
     → (ss : List h.Shared) (p : t.Proc) → length ss ≡ n → proc_of r ≡ behind_shared ss p → ⊥
 not_behind r n z other [] p l h = z (sym l)
-not_behind (sproc.Par' _ _ _ _ _) n z other (y ∷ ss) p l h = cc
-not_behind (sproc.Out _ _ _) n z other (y ∷ ss) p l h = cc
+not_behind (sproc.Par' _ _ _ _) n z other (y ∷ ss) p l h = cc
+not_behind (sproc.Out _ _) n z other (y ∷ ss) p l h = cc
 not_behind (sproc.OutThen' _ _ _ _ _) n z other (y ∷ ss) p l h = cc
 not_behind (sproc.Inp' _ _ _ _ _ _) n z other (y ∷ ss) p l h = cc
 not_behind (sproc.Repeat' _ _ _ _ _ _) n z other (y ∷ ss) p l h = cc
 not_behind (sproc.Split' _ _ _ _ _ _ _ _) n z other (y ∷ ss) p l h = cc
 not_behind (sproc.Match' _ _ _ _ _ _ _ _ _) n z other (y ∷ ss) p l h = cc
-not_behind (sproc.Case' _ _ _ _ _ _ _ _ _ _) n z other (y ∷ ss) p l h = cc
+not_behind (sproc.Case' _ _ _ _ _ _ _ _ _) n z other (y ∷ ss) p l h = cc
 not_behind (sproc.Decrypt' _ _ _ _ _ _ _) n z other (y ∷ ss) p l h = cc
 not_behind (sproc.Check' _ _ _ _ _) n z other (y ∷ ss) p l h = cc
 not_behind (sproc.Begin' _ _ _ _) n z other (y ∷ ss) p l h = cc
 not_behind (sproc.End' _ _ _ _) n z other (y ∷ ss) p l h = cc
 not_behind (sproc.EndMany' _ _ _ _) n z other (y ∷ ss) p l h = cc
 not_behind (sproc.Cast' _ _ _ _ _ _) n z other (y ∷ ss) p l h = cc
-not_behind (sproc.New' x a b c s) n z other (y ∷ ss) p l h = other x a (record { ptr = b.ptr; alloc = b.alloc; value = c }) s refl
+not_behind (sproc.New' b x a c s) n z other (y ∷ ss) p l h = other (record { ptr = b.ptr; alloc = b.alloc; value = record { name = x; ty = a; then = c } }) s refl
 not_behind (sproc.Stop _) n z other (y ∷ ss) p l h = cc
-not_behind (sproc.Group' _ _ _ _ _) n z other (y ∷ ss) p l h = cc
+not_behind (sproc.Group' _ _ _ _) n z other (y ∷ ss) p l h = cc

@@ -10,7 +10,7 @@ ghost use Rattle.spi_workbench.specs.Reading.{behind_shared};
 use crate::NoMemory;
 use spi_heading::Shared;
 use spi_text::Text;
-use spi_tree::{SProc, STy, SWord};
+use spi_tree::{NewParts, SProc, STy, SWord};
 use std::alloc::Global;
 use std::mem::replace;
 
@@ -19,16 +19,11 @@ fn behind_one(alloc: Global, mut shared: Shared, then: SProc) -> Result<SProc, N
     ensures { IfOk result (λ p. proc_of p ≡ t.new shared.span shared.name (ty_of shared.ty) (proc_of then)) }
 {
     let span = shared.span;
-    let then = Box::new(alloc, then)?;
     let word = Text::of(alloc, "")?;
     let name = replace(&mut shared.name, SWord { word, span });
     let ty = replace(&mut shared.ty, STy::Un { span });
-    Ok(SProc::New {
-        name,
-        ty,
-        then,
-        span,
-    })
+    let parts = Box::new(alloc, NewParts { name, ty, then })?;
+    Ok(SProc::New { parts, span })
 }
 
 /// The process behind a `new` for each shared name.
@@ -51,7 +46,7 @@ pub fn put_behind(place: &mut SProc, news: u32, part: SProc)
         drop(replace(place, part));
         return;
     }
-    if let SProc::New { then, .. } = place {
-        put_behind(&mut **then, news - 1, part);
+    if let SProc::New { parts, .. } = place {
+        put_behind(&mut parts.then, news - 1, part);
     }
 }

@@ -160,42 +160,34 @@ fn form_nodes(sizes: &Sizes, p: &SProc) -> u64
 {
     match p {
         SProc::Par { .. } | SProc::Group { .. } | SProc::Stop { .. } => 1,
-        SProc::Out { channel, datum, .. } => paired_nodes(channel, datum),
-        SProc::OutThen { channel, datum, .. } => one_more(paired_nodes(channel, datum)),
-        SProc::Inp { channel, ty, .. } | SProc::Repeat { channel, ty, .. } => {
-            typed_nodes(sizes, channel, ty)
+        SProc::Out { parts, .. } => paired_nodes(&parts.channel, &parts.datum),
+        SProc::OutThen { parts, .. } => one_more(paired_nodes(&parts.channel, &parts.datum)),
+        SProc::Inp { parts, .. } | SProc::Repeat { parts, .. } => {
+            typed_nodes(sizes, &parts.channel, &parts.ty)
         }
-        SProc::Split {
-            whole,
-            left_ty,
-            right_ty,
-            ..
+        SProc::Split { parts, .. } => {
+            let second = type_nodes(sizes, &parts.right_ty);
+            typed_nodes(sizes, &parts.whole, &parts.left_ty).saturating_add(second)
         }
-        | SProc::Case {
-            whole,
-            left_ty,
-            right_ty,
-            ..
-        } => typed_nodes(sizes, whole, left_ty).saturating_add(type_nodes(sizes, right_ty)),
-        SProc::Match {
-            whole,
-            left_ty,
-            equal,
-            right_ty,
-            ..
-        } => {
-            let second = message_nodes(equal).saturating_add(type_nodes(sizes, right_ty));
-            typed_nodes(sizes, whole, left_ty).saturating_add(second)
+        SProc::Case { parts, .. } => {
+            let second = type_nodes(sizes, &parts.right_ty);
+            typed_nodes(sizes, &parts.whole, &parts.left_ty).saturating_add(second)
         }
-        SProc::Decrypt { whole, ty, key, .. } => {
-            typed_nodes(sizes, whole, ty).saturating_add(message_nodes(key))
+        SProc::Match { parts, .. } => {
+            let right = type_nodes(sizes, &parts.right_ty);
+            let second = message_nodes(&parts.equal).saturating_add(right);
+            typed_nodes(sizes, &parts.whole, &parts.left_ty).saturating_add(second)
         }
-        SProc::Check { whole, nonce, .. } => paired_nodes(whole, nonce),
-        SProc::Begin { label, .. } | SProc::End { label, .. } | SProc::EndMany { label, .. } => {
-            one_more(message_nodes(label))
+        SProc::Decrypt { parts, .. } => {
+            let key = message_nodes(&parts.key);
+            typed_nodes(sizes, &parts.whole, &parts.ty).saturating_add(key)
         }
-        SProc::Cast { whole, ty, .. } => typed_nodes(sizes, whole, ty),
-        SProc::New { ty, .. } => one_more(type_nodes(sizes, ty)),
+        SProc::Check { parts, .. } => paired_nodes(&parts.whole, &parts.nonce),
+        SProc::Begin { parts, .. } | SProc::End { parts, .. } | SProc::EndMany { parts, .. } => {
+            one_more(message_nodes(&parts.label))
+        }
+        SProc::Cast { parts, .. } => typed_nodes(sizes, &parts.whole, &parts.ty),
+        SProc::New { parts, .. } => one_more(type_nodes(sizes, &parts.ty)),
     }
 }
 
@@ -206,31 +198,28 @@ pub fn process_nodes(sizes: &Sizes, p: &SProc) -> u64
     let form = form_nodes(sizes, p);
     match p {
         SProc::Out { .. } | SProc::Stop { .. } => form,
-        SProc::Par { first, rest, .. } | SProc::Group { first, rest, .. } => {
-            let rest = process_nodes(sizes, rest);
-            form.saturating_add(process_nodes(sizes, first))
+        SProc::Par { parts, .. } | SProc::Group { parts, .. } => {
+            let rest = process_nodes(sizes, &parts.rest);
+            form.saturating_add(process_nodes(sizes, &parts.first))
                 .saturating_add(rest)
         }
-        SProc::Case {
-            on_left,
-            on_right,
-            ..
-        } => {
-            let rest = process_nodes(sizes, on_right);
-            form.saturating_add(process_nodes(sizes, on_left))
+        SProc::Case { parts, .. } => {
+            let rest = process_nodes(sizes, &parts.on_right);
+            form.saturating_add(process_nodes(sizes, &parts.on_left))
                 .saturating_add(rest)
         }
-        SProc::OutThen { then, .. }
-        | SProc::Inp { then, .. }
-        | SProc::Repeat { then, .. }
-        | SProc::Split { then, .. }
-        | SProc::Match { then, .. }
-        | SProc::Decrypt { then, .. }
-        | SProc::Check { then, .. }
-        | SProc::Begin { then, .. }
-        | SProc::End { then, .. }
-        | SProc::EndMany { then, .. }
-        | SProc::Cast { then, .. }
-        | SProc::New { then, .. } => form.saturating_add(process_nodes(sizes, then)),
+        SProc::OutThen { parts, .. } => form.saturating_add(process_nodes(sizes, &parts.then)),
+        SProc::Inp { parts, .. } | SProc::Repeat { parts, .. } => {
+            form.saturating_add(process_nodes(sizes, &parts.then))
+        }
+        SProc::Split { parts, .. } => form.saturating_add(process_nodes(sizes, &parts.then)),
+        SProc::Match { parts, .. } => form.saturating_add(process_nodes(sizes, &parts.then)),
+        SProc::Decrypt { parts, .. } => form.saturating_add(process_nodes(sizes, &parts.then)),
+        SProc::Check { parts, .. } => form.saturating_add(process_nodes(sizes, &parts.then)),
+        SProc::Begin { parts, .. } | SProc::End { parts, .. } | SProc::EndMany { parts, .. } => {
+            form.saturating_add(process_nodes(sizes, &parts.then))
+        }
+        SProc::Cast { parts, .. } => form.saturating_add(process_nodes(sizes, &parts.then)),
+        SProc::New { parts, .. } => form.saturating_add(process_nodes(sizes, &parts.then)),
     }
 }

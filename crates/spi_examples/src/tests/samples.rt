@@ -52,7 +52,7 @@ pub fn file_of(alloc: Global, text: &str) -> Option<File> {
     if bytes.len() > 16_777_216 {
         return None;
     }
-    match read(alloc, bytes) {
+    match read(alloc, Afterwards::GoesOn, bytes) {
         Ok(file) => Some(file),
         Err(_) => None,
     }

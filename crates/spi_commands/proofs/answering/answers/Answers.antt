@@ -1,18 +1,18 @@
 use Rattle.spi_commands.proofs.AnswerCommands.{answered_on, answered_whole, answered_memory, unlexed_answer}
 use Rattle.spi_commands.proofs.answering.answers.Goals as goal
 
-pub on_tokens-requires-clause-tokens : goal.on_tokens-requires-clause-tokens
-on_tokens-requires-clause-tokens g c = rw c.deref.ensures.value (rw c.in-Lexed.is at c.requires.text)
+pub on_bytes-requires-clause-sized : goal.on_bytes-requires-clause-sized
+on_bytes-requires-clause-sized g c = rw c.deref.ensures.value (rw c.in-Bytes.is at c.requires.text)
 
-pub returns-in-Lexed-clause-answers : goal.returns-in-Lexed-clause-answers
-returns-in-Lexed-clause-answers g c =
-    rw c.in-Lexed.is (answered_on c.args.command c.in-Lexed.bytes.items _ _ c.on_tokens.result (rw c.deref.ensures.value at c.on_tokens.ensures.answers))
+pub returns-in-Bytes-clause-answers : goal.returns-in-Bytes-clause-answers
+returns-in-Bytes-clause-answers g c =
+    rw c.in-Bytes.is (answered_on c.args.command c.in-Bytes.bytes.items _ _ c.on_bytes.result (rw c.deref.ensures.value at c.on_bytes.ensures.answers))
 
-pub returns-in-Lexed-clause-answered : goal.returns-in-Lexed-clause-answered
-returns-in-Lexed-clause-answered g c = answered_whole c.args.command _ _ _ c.on_tokens.result c.on_tokens.ensures.answers
+pub returns-in-Bytes-clause-answered : goal.returns-in-Bytes-clause-answered
+returns-in-Bytes-clause-answered g c = answered_whole c.args.command _ _ _ c.on_bytes.result c.on_bytes.ensures.answers
 
-pub returns-in-Lexed-clause-err : goal.returns-in-Lexed-clause-err
-returns-in-Lexed-clause-err g c = answered_memory c.args.command _ _ _ c.on_tokens.result c.on_tokens.ensures.answers
+pub returns-in-Bytes-clause-err : goal.returns-in-Bytes-clause-err
+returns-in-Bytes-clause-err g c = answered_memory c.args.command _ _ _ c.on_bytes.result c.on_bytes.ensures.answers
 
 pub returns-in-Refused-clause-answers : goal.returns-in-Refused-clause-answers
 returns-in-Refused-clause-answers g c =

@@ -6,7 +6,7 @@ use Rattle.spi_parse.specs.Table.{decls}
 use Rattle.spi_parse.proofs.declarations.all_declarations.Given as goal
 
 abbrev pub invariant-items : goal.invariant-items
-invariant-items l = front (map decl_of l.more.items) (read limited (decls l.later) (state_of l.at)) ≡ read limited (decls l.later) (state_of l.fn.start)
+invariant-items l = front (map decl_of l.more.items) (read limited (decls l.later) (state_of l.at)) ≡ read limited (decls l.later) (state_of l.fn.at)
 
 abbrev pub decreases-items : goal.decreases-items
-decreases-items l = length l.at.rest.now
+decreases-items l = length (state_of l.at).rest

@@ -1,7 +1,5 @@
 use Rattle.std.proofs.Common.{arith}
-use Rattle.std.proofs.lemmas.List.{length-map}
 use Rattle.std.proofs.lemmas.Result.{err_from_is_err_and}
-use Rattle.spi_parse.specs.Tokens.{tok}
 use Rattle.spi_parse.specs.Places.{state_of}
 use Rattle.spi_parse.specs.Reading.{read, limited}
 use Rattle.spi_parse.proofs.Fronts.{goes_on, is_done, gives_up}
@@ -13,13 +11,13 @@ use Rattle.spi_parse.proofs.declarations.more_words.Goals as goal
 pub items-smaller : goal.items-smaller
 items-smaller c =
     let k = takes_some limited words_item (state_of c.items.at) _ words_take c.in_ok-item.ensures in
-    omega (arith, length-map c.items.at.rest.now tok, length-map c.in_ok-item.after.rest.now tok)
+    omega arith
 
 pub items-preserved : goal.items-preserved
 items-preserved c =
     let e = rw c.in-Some.is at c.in_ok-item.ensures in
     rw (c.in_ok-push-in-Some.ensures.items)
-    (goes_on (read limited words_item) (read limited words) words_law c.items.more.items c.in-Some.part (state_of c.items.at) (state_of c.in_ok-item.after) _ e c.items.invariant)
+    (goes_on (read limited words_item) (read limited words) words_law c.items.more.items c.in-Some.part (state_of c.items.at) (state_of c.next_word.new.at) _ e c.items.invariant)
 
 pub returns-in_err-item : goal.returns-in_err-item
 returns-in_err-item c =
@@ -29,4 +27,4 @@ returns-in_err-item c =
 pub returns-in-None : goal.returns-in-None
 returns-in-None c =
     let e = rw c.in-None.is at c.in_ok-item.ensures in
-    is_done (read limited words_item) (read limited words) words_law c.items.more.items tt (state_of c.items.at) (state_of c.in_ok-item.after) _ e c.items.invariant
+    is_done (read limited words_item) (read limited words) words_law c.items.more.items tt (state_of c.items.at) (state_of c.next_word.new.at) _ e c.items.invariant

@@ -5,7 +5,7 @@ use Rattle.spi_parse.specs.Table.{words}
 use Rattle.spi_parse.proofs.declarations.more_words.Given as goal
 
 abbrev pub invariant-items : goal.invariant-items
-invariant-items l = front l.more.items (read limited words (state_of l.at)) ≡ read limited words (state_of l.fn.start)
+invariant-items l = front l.more.items (read limited words (state_of l.at)) ≡ read limited words (state_of l.fn.at)
 
 abbrev pub decreases-items : goal.decreases-items
-decreases-items l = length l.at.rest.now
+decreases-items l = length (state_of l.at).rest

@@ -45,7 +45,7 @@ abbrev pub decreases-next_message : goal.decreases-next_message
 decreases-next_message l = 16 * (1001 - l.node.nesting) + 9
 
 abbrev pub invariant-several_messages-items : goal.invariant-several_messages-items
-invariant-several_messages-items l = front (map msg_of l.more.items) (read limited (msgs l.node.later l.node.numbered l.node.nesting) (state_of l.at)) ≡ front (msg_of l.fn.third ∷ []) (read limited (msgs l.node.later l.node.numbered l.node.nesting) (state_of l.fn.start))
+invariant-several_messages-items l = front (map msg_of l.more.items) (read limited (msgs l.node.later l.node.numbered l.node.nesting) (state_of l.at)) ≡ front (msg_of l.fn.third ∷ []) (read limited (msgs l.node.later l.node.numbered l.node.nesting) (state_of l.fn.at))
 
 abbrev pub decreases-several_messages-items : goal.decreases-several_messages-items
-decreases-several_messages-items l = length l.at.rest.now
+decreases-several_messages-items l = length (state_of l.at).rest

@@ -1,6 +1,4 @@
-use Rattle.std.proofs.Common.{rules, sym, ap, ◌∙◌}
-use Rattle.spi_tree.specs.Trees.{tuple}
-use Rattle.spi_tree.specs.Views.{msg_of}
+use Rattle.std.proofs.Common.{rules, ◌∙◌}
 use Rattle.spi_tree.proofs.Rows.{tuple_is, more_is}
 use Rattle.spi_parse.proofs.messages.make_tuple.Goals as goal
 

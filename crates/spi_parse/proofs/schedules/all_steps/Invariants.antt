@@ -6,7 +6,7 @@ use Rattle.spi_parse.specs.Table.{steps}
 use Rattle.spi_parse.proofs.schedules.all_steps.Given as goal
 
 abbrev pub invariant-items : goal.invariant-items
-invariant-items l = front (map step_of l.more.items) (read limited steps (state_of l.at)) ≡ read limited steps (state_of l.fn.start)
+invariant-items l = front (map step_of l.more.items) (read limited steps (state_of l.at)) ≡ read limited steps (state_of l.fn.at)
 
 abbrev pub decreases-items : goal.decreases-items
-decreases-items l = length l.at.rest.now
+decreases-items l = length (state_of l.at).rest

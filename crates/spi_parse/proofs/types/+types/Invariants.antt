@@ -42,7 +42,7 @@ abbrev pub decreases-field_behind_word : goal.decreases-field_behind_word
 decreases-field_behind_word l = 20 * (1001 - l.nesting) + 6
 
 abbrev pub invariant-read_fields-items : goal.invariant-read_fields-items
-invariant-read_fields-items l = front (map field_of l.more.items) (read limited (fields l.later l.nesting) (state_of l.at)) ≡ read limited (fields l.later l.nesting) (state_of l.fn.start)
+invariant-read_fields-items l = front (map field_of l.more.items) (read limited (fields l.later l.nesting) (state_of l.at)) ≡ read limited (fields l.later l.nesting) (state_of l.fn.at)
 
 abbrev pub decreases-read_fields-items : goal.decreases-read_fields-items
-decreases-read_fields-items l = length l.at.rest.now
+decreases-read_fields-items l = length (state_of l.at).rest
