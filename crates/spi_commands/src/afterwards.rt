@@ -6,8 +6,8 @@ use std::mem::forget;
 pub enum Afterwards {
     /// The program goes on, so all is given back.
     GoesOn,
-    /// The process ends. A file, its tree and the events of its replay are left where they are, and go with the process: to
-    /// take them down part by part takes longer than some commands.
+    /// The process ends. A file, the processes of its tree and the events of its replay are left where they are, and go with the
+    /// process: to take them down part by part takes longer than some commands.
     Ends,
 }
 

@@ -13,10 +13,12 @@ use crate::answer::{Answer, Stop};
 use crate::causes::{out_of_scope, refused_for, shown_count, shown_word, unparsed};
 use crate::reading::Unread;
 use crate::status::Status;
+use bumpalo::Bump;
 use spi_edits::{BenchText, read_bench};
 use spi_lex::Token;
 use spi_parse::ParseFault;
 use spi_scope::faults_stand_at_nodes;
+use spi_tree::Room;
 use spi_workbench::{Answer as Judged, Refusal as Unjudged, Verdicts, judge_edits};
 use std::alloc::Global;
 
@@ -26,15 +28,26 @@ pub fn benched(alloc: Global, bytes: &[u8], tokens: &[Token]) -> Result<Answer, 
     ensures ok { IfOk result (λ answer. BenchesTo bytes.now answer.status answer.output.items) }
     ensures err { OnErr result (result ≡ Err Stop.NoMemory) }
 {
+    let bump = Bump::new(alloc);
+    benched_in(Room { alloc, bump: &bump }, bytes, tokens)
+}
+
+/// The same, of a bench whose trees lie in this room.
+fn benched_in(room: Room<'_>, bytes: &[u8], tokens: &[Token]) -> Result<Answer, Stop>
+    requires { HasTokens bytes.now tokens.now }
+    ensures ok { IfOk result (λ answer. BenchesTo bytes.now answer.status answer.output.items) }
+    ensures err { OnErr result (result ≡ Err Stop.NoMemory) }
+{
     faults_stand_at_nodes();
-    match verdicts_of(alloc, bytes, tokens) {
+    let alloc = room.alloc;
+    match verdicts_of(room, bytes, tokens) {
         Ok(verdicts) => told(alloc, &verdicts),
         Err(cause) => refused_for(alloc, bytes, &cause),
     }
 }
 
 /// The verdicts of the bench that the tokens of these bytes spell.
-fn verdicts_of(alloc: Global, bytes: &[u8], tokens: &[Token]) -> Result<Verdicts, Unread>
+fn verdicts_of(room: Room<'_>, bytes: &[u8], tokens: &[Token]) -> Result<Verdicts, Unread>
     requires within { length bytes.now ≤ 16_777_216 }
     requires few { length tokens.now ≤ 16_777_216 }
     requires lexed { Lexes bytes.now (Ok tokens.now) }
@@ -43,7 +56,8 @@ fn verdicts_of(alloc: Global, bytes: &[u8], tokens: &[Token]) -> Result<Verdicts
         × IsJudged b (length bytes.now) verdicts) }
     ensures unread { IfErr result (IsUnreadBy (RefusesBench bytes.now)) }
 {
-    match read_bench(alloc, tokens) {
+    let alloc = room.alloc;
+    match read_bench(room, tokens) {
         Ok(text) => judged(alloc, text, bytes.len() as u32),
         Err(ParseFault::Syntax { token }) => Err(unparsed(alloc, 20, bytes, tokens, token)),
         Err(ParseFault::TooDeep { token }) => Err(unparsed(alloc, 21, bytes, tokens, token)),
@@ -52,9 +66,9 @@ fn verdicts_of(alloc: Global, bytes: &[u8], tokens: &[Token]) -> Result<Verdicts
 }
 
 /// The verdicts of this bench, of so many bytes.
-fn judged(alloc: Global, text: BenchText, end: u32) -> Result<Verdicts, Unread>
-    ensures verdicts { IfOk result (IsJudged (bench_of text) end) }
-    ensures unread { IfErr result (IsUnreadBy (IsUnjudged (bench_of text) end)) }
+fn judged(alloc: Global, text: BenchText<'_>, end: u32) -> Result<Verdicts, Unread>
+    ensures verdicts { IfOk result (IsJudged (bench_of text.entry) end) }
+    ensures unread { IfErr result (IsUnreadBy (IsUnjudged (bench_of text.entry) end)) }
 {
     match judge_edits(alloc, text, end)? {
         Judged::Judged(verdicts) => Ok(verdicts),

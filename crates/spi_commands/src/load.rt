@@ -11,11 +11,13 @@ ghost use Rattle.spi_commands.specs.Run.{IsAnswered};
 use crate::afterwards::Afterwards;
 use crate::answer::{Answer, Stop};
 use crate::status::Status;
+use bumpalo::Bump;
 use spi_deriv::{derive, one_canonical};
 use spi_gen::sessions;
 use spi_report::loaded;
 use spi_rules::Deriv;
 use spi_scope::{File, ScopeFault, resolve};
+use spi_tree::Room;
 use std::alloc::Global;
 
 /// What `load` answers for so many sessions: it makes their file, resolves it, derives its process, and tells the nodes of
@@ -26,14 +28,33 @@ pub fn loads(alloc: Global, afterwards: Afterwards, k: u32) -> Result<Answer, St
     ensures answered { IfOk result (λ answer. IsAnswered answer.status × (answer.status ≢ Status.Usage)) }
     ensures err { OnErr result (result ≡ Err Stop.NoMemory) }
 {
-    let tree = sessions(alloc, k)?;
-    match resolve(alloc, &tree) {
-        Ok(file) => {
-            afterwards.let_go(tree);
-            let answer = judged(alloc, k, &file);
-            afterwards.let_go(file);
-            answer
-        }
+    let file = sessions_file(alloc, k)?;
+    let answer = judged(alloc, k, &file);
+    afterwards.let_go(file);
+    answer
+}
+
+/// The file of so many sessions. Its tree is given back.
+fn sessions_file(alloc: Global, k: u32) -> Result<File, Stop>
+    requires { (1 ≤ k) × (k ≤ 500) }
+    ensures file { IfOk result
+        (λ file. (tree : t.File) × IsSessions k tree × StandsFor tree (meant file)) }
+    ensures err { OnErr result (result ≡ Err Stop.NoMemory) }
+{
+    let bump = Bump::new(alloc);
+    resolved_sessions(Room { alloc, bump: &bump }, k)
+}
+
+/// The file of so many sessions, whose tree lies in this room.
+fn resolved_sessions(room: Room<'_>, k: u32) -> Result<File, Stop>
+    requires { (1 ≤ k) × (k ≤ 500) }
+    ensures file { IfOk result
+        (λ file. (tree : t.File) × IsSessions k tree × StandsFor tree (meant file)) }
+    ensures err { OnErr result (result ≡ Err Stop.NoMemory) }
+{
+    let tree = sessions(room, k)?;
+    match resolve(room.alloc, &tree) {
+        Ok(file) => Ok(file),
         Err(fault) => Err(stopped(&fault)),
     }
 }

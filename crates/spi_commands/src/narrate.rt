@@ -22,11 +22,13 @@ use crate::answer::{Answer, Stop};
 use crate::canonical::shown;
 use crate::causes::{out_of_scope, refused_for, shown_count, shown_word, unparsed, unspelled};
 use crate::reading::Unread;
+use bumpalo::Bump;
 use spi_honest::faultless_is_tellable;
 use spi_lex::{Token, one_answer};
 use spi_narrate::{NarrateFault, Narration, one_first_fault, one_narration, read_narration};
 use spi_narrator::{Answer as Telling, Refusal as Untold, one_telling, tell, told_files_read_back};
 use spi_scope::faults_stand_at_nodes;
+use spi_tree::Room;
 use std::alloc::Global;
 
 /// What `narrate` answers on these bytes, which have these tokens.
@@ -35,9 +37,20 @@ pub fn narrated(alloc: Global, bytes: &[u8], tokens: &[Token]) -> Result<Answer,
     ensures ok { IfOk result (λ answer. NarratesTo bytes.now answer.status answer.output.items) }
     ensures err { OnErr result (result ≡ Err Stop.NoMemory) }
 {
+    let bump = Bump::new(alloc);
+    narrated_in(Room { alloc, bump: &bump }, bytes, tokens)
+}
+
+/// The same, of a narration whose trees lie in this room.
+fn narrated_in(room: Room<'_>, bytes: &[u8], tokens: &[Token]) -> Result<Answer, Stop>
+    requires { HasTokens bytes.now tokens.now }
+    ensures ok { IfOk result (λ answer. NarratesTo bytes.now answer.status answer.output.items) }
+    ensures err { OnErr result (result ≡ Err Stop.NoMemory) }
+{
     faults_stand_at_nodes();
-    match read_narration(alloc, tokens) {
-        Ok(narration) => told(alloc, bytes, &narration),
+    let alloc = room.alloc;
+    match read_narration(room, tokens) {
+        Ok(narration) => told(room, bytes, &narration),
         Err(fault) => refused_for(alloc, bytes, &unnarrated(alloc, bytes, tokens, &fault)),
     }
 }
@@ -60,14 +73,15 @@ fn unnarrated(alloc: Global, bytes: &[u8], tokens: &[Token], fault: &NarrateFaul
 }
 
 /// What `narrate` answers on the narration of these bytes.
-fn told(alloc: Global, bytes: &[u8], narration: &Narration) -> Result<Answer, Stop>
+fn told<'b>(room: Room<'b>, bytes: &[u8], narration: &Narration<'b>) -> Result<Answer, Stop>
     requires { SpellsNarration bytes.now (narration_of narration.now) }
     ensures ok { IfOk result (λ answer. NarratesTo bytes.now answer.status answer.output.items) }
     ensures err { OnErr result (result ≡ Err Stop.NoMemory) }
 {
     faults_stand_at_nodes();
     faultless_is_tellable();
-    let telling = tell(alloc, narration)?;
+    let alloc = room.alloc;
+    let telling = tell(room, narration)?;
     match &telling {
         Telling::Told(file) => shown(alloc, bytes, file),
         Telling::Refused(cause) => refused_for(alloc, bytes, &untold(alloc, cause)),

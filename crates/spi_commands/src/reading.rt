@@ -8,10 +8,11 @@ ghost use Rattle.spi_commands.specs.declared.reading.Unread.TheVariants.{NoMemor
 
 use crate::afterwards::Afterwards;
 use crate::causes::{out_of_scope, unlexed, unspelled};
+use bumpalo::Bump;
 use spi_parse::{ByteFault, parse_bytes};
 use spi_report::Refusal;
 use spi_scope::{File, resolve};
-use spi_tree::Tree;
+use spi_tree::{Room, Tree};
 use std::alloc::{AllocError, Global};
 
 /// Why bytes are not read.
@@ -32,14 +33,27 @@ impl From<AllocError> for Unread {
 }
 
 /// The file that the bytes spell, of which there are at most 16,777,216, or the first refusal of the numbers 10 to 37. Their
-/// tokens are never all there at once. Where the process ends afterwards, the tree of the file is left for it to take along.
+/// tokens are never all there at once. The messages and types of its tree are given back; where the process ends afterwards, the
+/// processes of the tree are left for it to take along.
 pub fn read(alloc: Global, afterwards: Afterwards, bytes: &[u8]) -> Result<File, Unread>
     requires { length bytes.now ≤ 16_777_216 }
     ensures file { IfOk result (λ f. SpellsFile bytes.now (meant f)) }
     ensures placed { IfOk result (λ f. IsRead bytes.now f) }
     ensures unread { IfErr result (λ u. IsUnread bytes.now u) }
 {
-    match parse_bytes(alloc, bytes) {
+    let bump = Bump::new(alloc);
+    read_in(Room { alloc, bump: &bump }, afterwards, bytes)
+}
+
+/// The file that the bytes spell, whose tree lies in this room, or the first refusal.
+fn read_in(room: Room<'_>, afterwards: Afterwards, bytes: &[u8]) -> Result<File, Unread>
+    requires { length bytes.now ≤ 16_777_216 }
+    ensures file { IfOk result (λ f. SpellsFile bytes.now (meant f)) }
+    ensures placed { IfOk result (λ f. IsRead bytes.now f) }
+    ensures unread { IfErr result (λ u. IsUnread bytes.now u) }
+{
+    let alloc = room.alloc;
+    match parse_bytes(room, bytes) {
         Ok(tree) => {
             let read = read_tree(alloc, bytes, &tree);
             afterwards.let_go(tree);

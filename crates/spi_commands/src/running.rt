@@ -35,7 +35,7 @@ use std::alloc::Global;
 
 /// Does what the words ask for: reads a file from the source, writes the answer to the sink, and says how
 /// it ended. The whole output is made first and written last. Only a play asks the players. Where the process ends
-/// afterwards, a file and its tree are left for it to take along.
+/// afterwards, a file and the processes of its tree are left for it to take along.
 pub fn run<S: Source, K: Sink>(
     alloc: Global,
     afterwards: Afterwards,

@@ -1,6 +1,6 @@
 //! Edits.
 
-ghost use Rattle.std.specs.Prelude.{◌≤◌, ◌==◌, [], false, length, IfOk};
+ghost use Rattle.std.specs.Prelude.{◌≤◌, ◌==◌, ◌↔◌, [], false, length, IfOk, IsTrue};
 ghost use Rattle.spi_tree.specs.declared.tree.SWord as words;
 ghost use Rattle.spi_tree.specs.Formed.{AreWordsFit};
 ghost use Rattle.spi_tree.specs.Pieces.{a_mark, a_word, kinds_in};
@@ -13,7 +13,7 @@ use crate::text::Edit;
 use spi_heading::{ReadPart, RepeatedPart, span_between, spelled_at, take_mark, take_word};
 use spi_lex::{Mark, Token};
 use spi_parse::{ParseFault, process_at};
-use spi_tree::SWord;
+use spi_tree::{Room, SWord};
 use std::alloc::Global;
 
 /// A name and the mark behind it, from the token of number `at` on.
@@ -35,20 +35,20 @@ fn marked_name_at(
 }
 
 /// `put A { P }`, where the token of number `at` is its first.
-fn put_at(alloc: Global, tokens: &[Token], at: u32, version: u32) -> ReadPart<Edit>
+fn put_at<'b>(room: Room<'b>, tokens: &[Token], at: u32, version: u32) -> ReadPart<Edit<'b>>
     requires text { IsTextOf version tokens.now }
     requires first { IsThere tokens.now at put_word }
     ensures { Reads edit_of whole_edit (IsWholeEdit (version == 2)) result tokens.now at }
 {
-    let (name, part_at) = marked_name_at(alloc, tokens, at + 1, Mark::BraceOpen, version)?;
-    let (part, close) = process_at(alloc, tokens, part_at, version)?;
+    let (name, part_at) = marked_name_at(room.alloc, tokens, at + 1, Mark::BraceOpen, version)?;
+    let (part, close) = process_at(room, tokens, part_at, version)?;
     let next = take_mark(tokens, close, Mark::BraceClose)?;
     let span = span_between(tokens, at, next);
     Ok((Edit::Put { name, part, span }, next))
 }
 
 /// `drop A;`, where the token of number `at` is its first.
-fn drop_at(alloc: Global, tokens: &[Token], at: u32, version: u32) -> ReadPart<Edit>
+fn drop_at<'b>(alloc: Global, tokens: &[Token], at: u32, version: u32) -> ReadPart<Edit<'b>>
     requires text { IsTextOf version tokens.now }
     requires first { IsThere tokens.now at drop_word }
     ensures { Reads edit_of whole_edit (IsWholeEdit (version == 2)) result tokens.now at }
@@ -61,20 +61,22 @@ fn drop_at(alloc: Global, tokens: &[Token], at: u32, version: u32) -> ReadPart<E
 /// Edits up to the end, as repeated parts.
 pub struct Edits;
 
-impl RepeatedPart for Edits {
-    type Read = Edit;
+impl<'b> RepeatedPart<'b> for Edits {
+    type Read = Edit<'b>;
 
     ghost kind = { edit_kind };
 
-    fn begins_at(tokens: &[Token], at: u32) -> bool {
+    fn begins_at(tokens: &[Token], at: u32) -> bool
+        ensures { IsTrue result ↔ edit_kind.Begins tokens.now at }
+    {
         (at as usize) < tokens.len()
     }
 
-    fn part_at(alloc: Global, tokens: &[Token], at: u32, version: u32) -> ReadPart<Edit> {
+    fn part_at(room: Room<'b>, tokens: &[Token], at: u32, version: u32) -> ReadPart<Edit<'b>> {
         if spelled_at(tokens, at, "put") {
-            put_at(alloc, tokens, at, version)
+            put_at(room, tokens, at, version)
         } else if spelled_at(tokens, at, "drop") {
-            drop_at(alloc, tokens, at, version)
+            drop_at(room.alloc, tokens, at, version)
         } else {
             Err(ParseFault::Syntax { token: at })
         }

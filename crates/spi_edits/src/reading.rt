@@ -9,11 +9,11 @@ ghost use Rattle.spi_edits.specs.Views.{bench_of};
 
 use crate::edits::Edits;
 use crate::text::BenchText;
-use spi_heading::{heading_at, parts_at, span_between};
+use spi_heading::{Heading, heading_at, parts_at, span_between};
 use spi_lex::Token;
 use spi_parse::ParseFault;
 use spi_text::Span;
-use std::alloc::Global;
+use spi_tree::Room;
 
 /// From the start of the first token to the end of the last; the empty span at 0 where there is none.
 fn whole_span(tokens: &[Token]) -> Span
@@ -33,17 +33,22 @@ fn whole_span(tokens: &[Token]) -> Span
 /// A fault names its token by its number from 0. `Syntax` is at the token with which no bench goes on, and at the end it is the
 /// number of tokens. `TooDeep` is at the first token at which a node of some bench starts that is above its nesting limit.
 /// `NoMemory` comes where memory runs out.
-pub fn read_bench(alloc: Global, tokens: &[Token]) -> Result<BenchText, ParseFault>
+pub fn read_bench<'b>(room: Room<'b>, tokens: &[Token]) -> Result<BenchText<'b>, ParseFault>
     requires size { length tokens.now ≤ 16_777_216 }
     requires words { AreWordsFit (is_version_2 (kinds_of tokens.now)) (kinds_of tokens.now) }
     ensures { ParsesBench bench_of result tokens.now }
 {
-    let (heading, start) = heading_at(alloc, tokens)?;
-    let (edits, _behind) = parts_at::<Edits>(alloc, tokens, start, heading.version)?;
+    let (heading, start) = heading_at(room, tokens)?;
+    let Heading {
+        version,
+        decls,
+        shared,
+    } = heading;
+    let (edits, _behind) = parts_at::<Edits>(room, tokens, start, version)?;
     Ok(BenchText {
-        version: heading.version,
-        decls: heading.decls,
-        shared: heading.shared,
+        version,
+        decls,
+        shared,
         edits,
         span: whole_span(tokens),
     })

@@ -6,21 +6,21 @@ use spi_tree::{Decl, SProc, SWord};
 
 /// A bench: what it declares, the names that all parts share, and edits of its parts.
 #[derive(Drop)]
-pub struct BenchText {
+pub struct BenchText<'b> {
     /// 1, or 2 where the bench begins with `version 2;`
     pub version: u32,
-    pub decls: Vec<Decl>,
-    pub shared: Vec<Shared>,
-    pub edits: Vec<Edit>,
+    pub decls: Vec<Decl<'b>>,
+    pub shared: Vec<Shared<'b>>,
+    pub edits: Vec<Edit<'b>>,
     pub span: Span,
 }
 
 /// An edit of one part.
-pub enum Edit {
+pub enum Edit<'b> {
     /// `put A { P }`
     Put {
         name: SWord,
-        part: SProc,
+        part: SProc<'b>,
         span: Span,
     },
     /// `drop A;`
@@ -30,7 +30,7 @@ pub enum Edit {
     },
 }
 
-impl Drop for Edit {
+impl<'b> Drop for Edit<'b> {
     fn drop(self) {
         match self {
             Edit::Put {

@@ -10,9 +10,11 @@ ghost use Rattle.spi_expected.specs.Expected.{candidates as all, AreThose, GoesO
 
 use crate::NoMemory;
 use crate::candidates::candidates;
+use bumpalo::Bump;
 use spi_lex::{Kind, Token};
 use spi_parse::{ParseFault, parse};
 use spi_text::{Span, Text};
+use spi_tree::Room;
 use std::alloc::{AllocError, Global};
 
 fn copied_kind(alloc: Global, kind: &Kind) -> Result<Kind, NoMemory>
@@ -54,6 +56,23 @@ fn is_length(token: u32, tokens: &[Token]) -> bool
     token as usize == tokens.len()
 }
 
+/// Whether some file's tokens begin with these, of which no node above a nesting limit starts before the last. The tree that
+/// is read lies in the room.
+fn is_begun_in(room: Room<'_>, tokens: &[Token]) -> Result<bool, NoMemory>
+    requires size { length tokens.now ≤ 16_777_216 }
+    requires words { AreWordsFit (is_version_2 (kinds_of tokens.now)) (kinds_of tokens.now) }
+    ensures { IfOk result
+        (λ b. (front : List Token_kind) (k : Token_kind) → kinds_of tokens.now ≡ front ++ k ∷ []
+        → NoDeepBefore whole_file IsFile (kinds_of tokens.now) (length front) → IsTrue b ↔ GoesOn front k) }
+{
+    match parse(room, tokens, 0) {
+        Ok(_) => Ok(true),
+        Err(ParseFault::Syntax { token }) => Ok(is_length(token, tokens)),
+        Err(ParseFault::TooDeep { token: _ }) => Ok(true),
+        Err(ParseFault::NoMemory) => Err(AllocError),
+    }
+}
+
 /// Whether some file's tokens begin with these, of which no node above a nesting limit starts before the last.
 fn is_begun(alloc: Global, tokens: &[Token]) -> Result<bool, NoMemory>
     requires size { length tokens.now ≤ 16_777_216 }
@@ -62,12 +81,8 @@ fn is_begun(alloc: Global, tokens: &[Token]) -> Result<bool, NoMemory>
         (λ b. (front : List Token_kind) (k : Token_kind) → kinds_of tokens.now ≡ front ++ k ∷ []
         → NoDeepBefore whole_file IsFile (kinds_of tokens.now) (length front) → IsTrue b ↔ GoesOn front k) }
 {
-    match parse(alloc, tokens, 0) {
-        Ok(_) => Ok(true),
-        Err(ParseFault::Syntax { token }) => Ok(is_length(token, tokens)),
-        Err(ParseFault::TooDeep { token: _ }) => Ok(true),
-        Err(ParseFault::NoMemory) => Err(AllocError),
-    }
+    let bump = Bump::new(alloc);
+    is_begun_in(Room { alloc, bump: &bump }, tokens)
 }
 
 /// Whether some file's tokens begin with these and then with one of this kind.

@@ -9,9 +9,39 @@ ghost use Rattle.spi_expected.specs.Expected.{candidates, AreThose, GoesOn};
 
 use crate::NoMemory;
 use crate::fronts::expected;
+use bumpalo::Bump;
 use spi_lex::{Kind, LexFault, lex};
 use spi_parse::{ParseFault, parse};
+use spi_tree::Room;
 use std::alloc::{AllocError, Global};
+
+/// The kinds of token of which one could stand where the syntax of these bytes breaks off, as `expected_in` says. The tree that
+/// is read lies in the room.
+fn expected_of(room: Room<'_>, bytes: &[u8]) -> Result<Option<Vec<Kind>>, NoMemory>
+    requires { length bytes.now ≤ 16_777_216 }
+    ensures some { IfOk result
+        (λ r. IfSome r (λ those. (tokens : List Token) × (at : ℕ) × Lexes bytes.now (Ok tokens)
+        × IsSyntaxAt whole_file IsFile (kinds_of tokens) at
+        × AreThose (GoesOn (take at (kinds_of tokens))) candidates those.items)) }
+    ensures none { IfOk result
+        (λ r. IfNone r ((tokens : List Token) (at : ℕ) → Lexes bytes.now (Ok tokens)
+        → length tokens < 16_777_216 → IsSyntaxAt whole_file IsFile (kinds_of tokens) at → ⊥)) }
+{
+    let tokens = match lex(room.alloc, bytes) {
+        Ok(tokens) => tokens,
+        Err(LexFault::NoMemory) => return Err(AllocError),
+        Err(_) => return Ok(None),
+    };
+    if tokens.len() >= 16_777_216 {
+        return Ok(None);
+    }
+    match parse(room, &tokens, bytes.len() as u32) {
+        Ok(_) => Ok(None),
+        Err(ParseFault::Syntax { token }) => Ok(Some(expected(room.alloc, &tokens, token)?)),
+        Err(ParseFault::TooDeep { .. }) => Ok(None),
+        Err(ParseFault::NoMemory) => Err(AllocError),
+    }
+}
 
 /// The kinds of token of which one could stand where the syntax of these bytes breaks off. None where the bytes have no
 /// tokens, where it doesn't break off, and for 16,777,216 tokens. Its only error is NoMemory.
@@ -25,18 +55,6 @@ pub fn expected_in(alloc: Global, bytes: &[u8]) -> Result<Option<Vec<Kind>>, NoM
         (λ r. IfNone r ((tokens : List Token) (at : ℕ) → Lexes bytes.now (Ok tokens)
         → length tokens < 16_777_216 → IsSyntaxAt whole_file IsFile (kinds_of tokens) at → ⊥)) }
 {
-    let tokens = match lex(alloc, bytes) {
-        Ok(tokens) => tokens,
-        Err(LexFault::NoMemory) => return Err(AllocError),
-        Err(_) => return Ok(None),
-    };
-    if tokens.len() >= 16_777_216 {
-        return Ok(None);
-    }
-    match parse(alloc, &tokens, bytes.len() as u32) {
-        Ok(_) => Ok(None),
-        Err(ParseFault::Syntax { token }) => Ok(Some(expected(alloc, &tokens, token)?)),
-        Err(ParseFault::TooDeep { .. }) => Ok(None),
-        Err(ParseFault::NoMemory) => Err(AllocError),
-    }
+    let bump = Bump::new(alloc);
+    expected_of(Room { alloc, bump: &bump }, bytes)
 }

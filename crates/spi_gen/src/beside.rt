@@ -5,23 +5,22 @@ ghost use Rattle.spi_gen.specs.Sessions.{AreBeside, AreGrouped, IsSessions};
 
 use crate::NoMemory;
 use crate::parts::{NOWHERE, declarations, handshake};
-use spi_tree::{BothParts, SProc, Tree};
-use std::alloc::Global;
+use spi_tree::{BothParts, Room, SProc, Tree};
 
 // So many sessions in the place of a part, where several are in parentheses, or in the place of a process.
-fn beside(alloc: Global, n: u32, in_part: bool) -> Result<SProc, NoMemory>
+fn beside<'b>(room: Room<'b>, n: u32, in_part: bool) -> Result<SProc<'b>, NoMemory>
     requires some { 1 ≤ n }
     requires few { n ≤ 500 }
     ensures part { IfOk result (λ p. in_part ≡ true → AreGrouped n (proc_of p)) }
     ensures process { IfOk result (λ p. in_part ≡ false → AreBeside n (proc_of p)) }
 {
     if n == 1 {
-        return handshake(alloc);
+        return handshake(room);
     }
     let half = (n + 1) / 2;
-    let first = beside(alloc, half, true)?;
-    let rest = beside(alloc, n - half, true)?;
-    let parts = Box::new(alloc, BothParts { first, rest })?;
+    let first = beside(room, half, true)?;
+    let rest = beside(room, n - half, true)?;
+    let parts = Box::new(room.alloc, BothParts { first, rest })?;
     let span = NOWHERE;
     if in_part {
         Ok(SProc::Group { parts, span })
@@ -32,15 +31,15 @@ fn beside(alloc: Global, n: u32, in_part: bool) -> Result<SProc, NoMemory>
 
 /// The file of so many sessions of the nonce handshake beside one another, from 1 to 500: of two halves the first is rounded
 /// up, and several sessions in one part stand in parentheses. Its nodes and words have the empty span at 0.
-pub fn sessions(alloc: Global, k: u32) -> Result<Tree, NoMemory>
+pub fn sessions<'b>(room: Room<'b>, k: u32) -> Result<Tree<'b>, NoMemory>
     requires some { 1 ≤ k }
     requires few { k ≤ 500 }
     ensures { IfOk result (λ tree. IsSessions k (file_of tree)) }
 {
     Ok(Tree {
         version: 1,
-        decls: declarations(alloc)?,
-        process: beside(alloc, k, false)?,
+        decls: declarations(room)?,
+        process: beside(room, k, false)?,
         opponent: None,
         schedule: None,
         derivation: None,

@@ -7,10 +7,10 @@ ghost use Rattle.spi_heading.specs.Taking.{IsTextOf};
 use crate::tokens::ReadPart;
 use spi_lex::Token;
 use spi_parse::ParseFault;
-use std::alloc::Global;
+use spi_tree::Room;
 
 /// A kind of part that stands any number of times.
-pub trait RepeatedPart {
+pub trait RepeatedPart<'b> {
     /// A part that is read.
     type Read: Drop;
 
@@ -23,7 +23,7 @@ pub trait RepeatedPart {
 
     /// The part that the tokens from number `at` on begin with, in a text of the version, and the number of the token behind
     /// it, or the fault.
-    fn part_at(alloc: Global, tokens: &[Token], at: u32, version: u32) -> ReadPart<Self::Read>
+    fn part_at(room: Room<'b>, tokens: &[Token], at: u32, version: u32) -> ReadPart<Self::Read>
         requires text { IsTextOf version tokens.now }
         requires start { at ≤ length tokens.now }
         ensures { ReadsRepeated kind (version == 2) result tokens.now at };
@@ -31,8 +31,8 @@ pub trait RepeatedPart {
 
 /// The parts from token number `start` on, up to a token with which none begins, and the number of that token. The fault is
 /// that of the first part that isn't read.
-pub fn parts_at<P: RepeatedPart>(
-    alloc: Global,
+pub fn parts_at<'b, P: RepeatedPart<'b>>(
+    room: Room<'b>,
     tokens: &[Token],
     start: u32,
     version: u32,
@@ -42,10 +42,10 @@ pub fn parts_at<P: RepeatedPart>(
     requires solid { IsSolidKind P.kind }
     ensures { ReadsParts P.kind (version == 2) result tokens.now start }
 {
-    let mut parts = Vec::new(alloc);
+    let mut parts = Vec::new(room.alloc);
     let mut at = start;
     'parts: while P::begins_at(tokens, at) {
-        let (part, next) = P::part_at(alloc, tokens, at, version)?;
+        let (part, next) = P::part_at(room, tokens, at, version)?;
         match parts.push(part) {
             Ok(()) => {}
             Err(_) => return Err(ParseFault::NoMemory),

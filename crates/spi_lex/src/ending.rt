@@ -1,7 +1,8 @@
 //! Whether a text has tokens up to its end, without a list of them.
 
-ghost use Rattle.std.specs.Prelude.{◌≡◌, ◌↔◌, ◌+◌, ◌≤◌, IsTrue, length, take, IfOk, IfErr, IfSome, MatchOption, None, Ok, Err};
-ghost use Rattle.spi_lex.specs.Lexing.{Lexes, IsLexFault};
+ghost use Rattle.std.specs.Prelude.{◌≡◌, ◌≢◌, ◌↔◌, ◌+◌, ◌≤◌, IsTrue, length, take, IfOk, IfErr, IfSome, MatchOption, None, Ok, Err};
+ghost use Rattle.spi_lex.specs.Lexing.{Lexes};
+ghost use Rattle.spi_lex.specs.declared.fault.LexFault.TheVariants.{NoMemory};
 ghost use Rattle.spi_lex.specs.Front.{IsFront, FailsPart, AllowsPart};
 ghost use Rattle.spi_lex.specs.Left.{tokens_in, OnlyGaps, end_of};
 ghost use Rattle.spi_lex.specs.declared.scan.Shape.TheVariants as shapes;
@@ -58,7 +59,8 @@ pub fn ends_behind(text: &str, at: u32) -> bool
 /// Why the front of a text, which stands at this offset, may not stand there.
 fn fault_of(shape: Shape, text: &str, len: usize, at: u32) -> Option<LexFault>
     requires { IsFront text.now shape len }
-    ensures { MatchOption result (AllowsPart shape (take len text.now)) (FailsPart shape (take len text.now) at) }
+    ensures { MatchOption result (AllowsPart shape (take len text.now))
+        (λ fault. (fault ≢ NoMemory) × FailsPart shape (take len text.now) at fault) }
 {
     match shape {
         Shape::Gap | Shape::Sign(_) => None,
@@ -78,7 +80,8 @@ fn fault_of(shape: Shape, text: &str, len: usize, at: u32) -> Option<LexFault>
 /// The fault of a text that has no tokens, and none where it has tokens. It needs no memory.
 pub fn fault_in(text: &str) -> Option<LexFault>
     requires { length text.now ≤ 16_777_216 }
-    ensures { MatchOption result (Lexes text.now (Ok (tokens_in text.now))) (IsLexFault text.now) }
+    ensures { MatchOption result (Lexes text.now (Ok (tokens_in text.now)))
+        (λ fault. Lexes text.now (Err fault)) }
 {
     let mut rest = after_blanks(text);
     while !rest.is_empty() {

@@ -16,15 +16,16 @@ use Rattle.spi_narrate.specs.Narrations as n
 use Rattle.spi_narrate.specs.Grammar.{comma_pieces, line_pieces, IsAnyWord, IsLine}
 
 abbrev pub prefix_of : Prefix → n.Prefix
-prefix_of (prefix.Split m x y s) = n.split s (msg_of m) x.name (ty_of x.ty) y.name (ty_of y.ty)
-prefix_of (prefix.Match m x k y s) = n.match s (msg_of m) x.name (ty_of x.ty) (msg_of k) y.name (ty_of y.ty)
-prefix_of (prefix.Decrypt m x k s) = n.decrypt s (msg_of m) x.name (ty_of x.ty) (msg_of k)
+prefix_of (prefix.Split m x y s) = n.split s (msg_of m) x.name (ty_of x.ty.value) y.name (ty_of y.ty.value)
+prefix_of (prefix.Match m x k y s) =
+    n.match s (msg_of m) x.name (ty_of x.ty.value) (msg_of k) y.name (ty_of y.ty.value)
+prefix_of (prefix.Decrypt m x k s) = n.decrypt s (msg_of m) x.name (ty_of x.ty.value) (msg_of k)
 prefix_of (prefix.Check m k s) = n.check s (msg_of m) (msg_of k)
 prefix_of (prefix.Begin m s) = n.begin s (msg_of m)
 prefix_of (prefix.End m s) = n.end s (msg_of m)
 prefix_of (prefix.EndMany m s) = n.end_many s (msg_of m)
-prefix_of (prefix.Cast m x s) = n.cast s (msg_of m) x.name (ty_of x.ty)
-prefix_of (prefix.New x s) = n.new s x.name (ty_of x.ty)
+prefix_of (prefix.Cast m x s) = n.cast s (msg_of m) x.name (ty_of x.ty.value)
+prefix_of (prefix.New x s) = n.new s x.name (ty_of x.ty.value)
 
 abbrev pub line_of : Line → n.Line
 line_of (line.Local role x s) = n.local s role (prefix_of x)

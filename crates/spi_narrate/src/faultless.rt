@@ -24,7 +24,7 @@ use spi_heading::Shared;
 use spi_lex::Token;
 use spi_parse::ParseFault;
 use spi_text::{Span, Text};
-use spi_tree::SWord;
+use spi_tree::{Room, SWord};
 use std::alloc::Global;
 
 /// How many shared names a narration may have.
@@ -42,14 +42,14 @@ const LINES: usize = 200;
 /// `Syntax` and `TooDeep` are as `parse_narration` has them. The others come where the tokens are those of a narration, and
 /// the first of them in reading order is told; at one place that is `RoleTwice` or `UnknownRole` before `NarrationTooLarge`.
 /// `NoMemory` comes where memory runs out.
-pub fn read_narration(alloc: Global, tokens: &[Token]) -> Result<Narration, NarrateFault>
+pub fn read_narration<'b>(room: Room<'b>, tokens: &[Token]) -> Result<Narration<'b>, NarrateFault>
     requires size { length tokens.now ≤ 16_777_216 }
     requires words { AreWordsFit (is_version_2 (kinds_of tokens.now)) (kinds_of tokens.now) }
     ensures { ReadsNarration narration_of result tokens.now }
 {
-    match parse_narration(alloc, tokens) {
+    match parse_narration(room, tokens) {
         Ok(narration) => {
-            test(alloc, &narration)?;
+            test(room.alloc, &narration)?;
             Ok(narration)
         }
         Err(ParseFault::Syntax { token }) => Err(NarrateFault::Syntax { token }),

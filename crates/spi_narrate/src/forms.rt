@@ -20,11 +20,10 @@ use crate::tree::Prefix;
 use spi_heading::{Named, ReadPart, named_at, span_between, take_mark, take_reserved};
 use spi_lex::{Kind, Mark, Reserved, Token};
 use spi_parse::{ParseFault, message_at};
-use spi_tree::SMsg;
-use std::alloc::Global;
+use spi_tree::{Room, SMsg};
 
 /// `M is`, from the token of number `at` on.
-fn whole_at(alloc: Global, tokens: &[Token], at: u32, version: u32) -> ReadPart<SMsg>
+fn whole_at<'b>(room: Room<'b>, tokens: &[Token], at: u32, version: u32) -> ReadPart<SMsg<'b>>
     requires text { IsTextOf version tokens.now }
     requires start { at ≤ length tokens.now }
     ensures read { let pieces = λ (x : Msg). msg_pieces 1 x (a_reserved word.Is []) in
@@ -33,19 +32,19 @@ fn whole_at(alloc: Global, tokens: &[Token], at: u32, version: u32) -> ReadPart<
         result tokens.now at }
     ensures within { IfOk result (λ r. r.1 ≤ length tokens.now) }
 {
-    let (whole, is_at) = message_at(alloc, tokens, at, version)?;
+    let (whole, is_at) = message_at(room, tokens, at, version)?;
     let next = take_reserved(tokens, is_at, Reserved::Is)?;
     Ok((whole, next))
 }
 
 /// `M is (x: T`, or with another mark before the name, from the token of number `at` on.
-fn bound_at(
-    alloc: Global,
+fn bound_at<'b>(
+    room: Room<'b>,
     tokens: &[Token],
     at: u32,
     mark: Mark,
     version: u32,
-) -> ReadPart<(SMsg, Named)>
+) -> ReadPart<(SMsg<'b>, Named<'b>)>
     requires text { IsTextOf version tokens.now }
     requires start { at ≤ length tokens.now }
     ensures read { let pieces = λ (x : Msg × headings.Named). msg_pieces 1 x.0
@@ -56,14 +55,20 @@ fn bound_at(
         result tokens.now at }
     ensures within { IfOk result (λ r. r.1 ≤ length tokens.now) }
 {
-    let (whole, mark_at) = whole_at(alloc, tokens, at, version)?;
+    let (whole, mark_at) = whole_at(room, tokens, at, version)?;
     let name_at = take_mark(tokens, mark_at, mark)?;
-    let (named, next) = named_at(alloc, tokens, name_at, version)?;
+    let (named, next) = named_at(room, tokens, name_at, version)?;
     Ok(((whole, named), next))
 }
 
 /// `(x: T)`, or with another mark before the name, from the token of number `at` on.
-fn closed_at(alloc: Global, tokens: &[Token], at: u32, mark: Mark, version: u32) -> ReadPart<Named>
+fn closed_at<'b>(
+    room: Room<'b>,
+    tokens: &[Token],
+    at: u32,
+    mark: Mark,
+    version: u32,
+) -> ReadPart<Named<'b>>
     requires text { IsTextOf version tokens.now }
     requires start { at ≤ length tokens.now }
     ensures read { let pieces = λ (x : headings.Named).
@@ -74,19 +79,19 @@ fn closed_at(alloc: Global, tokens: &[Token], at: u32, mark: Mark, version: u32)
     ensures within { IfOk result (λ r. r.1 ≤ length tokens.now) }
 {
     let name_at = take_mark(tokens, at, mark)?;
-    let (named, close) = named_at(alloc, tokens, name_at, version)?;
+    let (named, close) = named_at(room, tokens, name_at, version)?;
     let next = take_mark(tokens, close, Mark::ParenClose)?;
     Ok((named, next))
 }
 
 /// `split M is (x: T, y: U)`, where the token of number `at` is its first.
-fn split_at(alloc: Global, tokens: &[Token], at: u32, version: u32) -> ReadPart<Prefix>
+fn split_at<'b>(room: Room<'b>, tokens: &[Token], at: u32, version: u32) -> ReadPart<Prefix<'b>>
     requires text { IsTextOf version tokens.now }
     requires first { IsThere tokens.now at (kinds.Reserved word.Split) }
     ensures { Reads prefix_of whole_prefix (IsWholePrefix (version == 2)) result tokens.now at }
 {
-    let (bound, comma) = bound_at(alloc, tokens, at + 1, Mark::ParenOpen, version)?;
-    let (right, next) = closed_at(alloc, tokens, comma, Mark::Comma, version)?;
+    let (bound, comma) = bound_at(room, tokens, at + 1, Mark::ParenOpen, version)?;
+    let (right, next) = closed_at(room, tokens, comma, Mark::Comma, version)?;
     let (whole, left) = bound;
     let span = span_between(tokens, at, next);
     Ok((
@@ -101,15 +106,15 @@ fn split_at(alloc: Global, tokens: &[Token], at: u32, version: u32) -> ReadPart<
 }
 
 /// `match M is (x: T = N, y: U)`, where the token of number `at` is its first.
-fn match_at(alloc: Global, tokens: &[Token], at: u32, version: u32) -> ReadPart<Prefix>
+fn match_at<'b>(room: Room<'b>, tokens: &[Token], at: u32, version: u32) -> ReadPart<Prefix<'b>>
     requires text { IsTextOf version tokens.now }
     requires first { IsThere tokens.now at (kinds.Reserved word.Match) }
     ensures { Reads prefix_of whole_prefix (IsWholePrefix (version == 2)) result tokens.now at }
 {
-    let (bound, equals) = bound_at(alloc, tokens, at + 1, Mark::ParenOpen, version)?;
+    let (bound, equals) = bound_at(room, tokens, at + 1, Mark::ParenOpen, version)?;
     let equal_at = take_mark(tokens, equals, Mark::Equals)?;
-    let (equal, comma) = message_at(alloc, tokens, equal_at, version)?;
-    let (right, next) = closed_at(alloc, tokens, comma, Mark::Comma, version)?;
+    let (equal, comma) = message_at(room, tokens, equal_at, version)?;
+    let (right, next) = closed_at(room, tokens, comma, Mark::Comma, version)?;
     let (whole, left) = bound;
     let span = span_between(tokens, at, next);
     Ok((
@@ -125,14 +130,14 @@ fn match_at(alloc: Global, tokens: &[Token], at: u32, version: u32) -> ReadPart<
 }
 
 /// `decrypt M is {x: T}N`, where the token of number `at` is its first.
-fn decrypt_at(alloc: Global, tokens: &[Token], at: u32, version: u32) -> ReadPart<Prefix>
+fn decrypt_at<'b>(room: Room<'b>, tokens: &[Token], at: u32, version: u32) -> ReadPart<Prefix<'b>>
     requires text { IsTextOf version tokens.now }
     requires first { IsThere tokens.now at (kinds.Reserved word.Decrypt) }
     ensures { Reads prefix_of whole_prefix (IsWholePrefix (version == 2)) result tokens.now at }
 {
-    let (opened, close) = bound_at(alloc, tokens, at + 1, Mark::BraceOpen, version)?;
+    let (opened, close) = bound_at(room, tokens, at + 1, Mark::BraceOpen, version)?;
     let key_at = take_mark(tokens, close, Mark::BraceClose)?;
-    let (key, next) = message_at(alloc, tokens, key_at, version)?;
+    let (key, next) = message_at(room, tokens, key_at, version)?;
     let (whole, bound) = opened;
     let span = span_between(tokens, at, next);
     Ok((
@@ -147,32 +152,32 @@ fn decrypt_at(alloc: Global, tokens: &[Token], at: u32, version: u32) -> ReadPar
 }
 
 /// `check M is N`, where the token of number `at` is its first.
-fn check_at(alloc: Global, tokens: &[Token], at: u32, version: u32) -> ReadPart<Prefix>
+fn check_at<'b>(room: Room<'b>, tokens: &[Token], at: u32, version: u32) -> ReadPart<Prefix<'b>>
     requires text { IsTextOf version tokens.now }
     requires first { IsThere tokens.now at (kinds.Reserved word.Check) }
     ensures { Reads prefix_of whole_prefix (IsWholePrefix (version == 2)) result tokens.now at }
 {
-    let (whole, nonce_at) = whole_at(alloc, tokens, at + 1, version)?;
-    let (nonce, next) = message_at(alloc, tokens, nonce_at, version)?;
+    let (whole, nonce_at) = whole_at(room, tokens, at + 1, version)?;
+    let (nonce, next) = message_at(room, tokens, nonce_at, version)?;
     let span = span_between(tokens, at, next);
     Ok((Prefix::Check { whole, nonce, span }, next))
 }
 
 /// `begin L`, `end L` or `endmany L`, where the token of number `at` is its first.
-fn label_at(
-    alloc: Global,
+fn label_at<'b>(
+    room: Room<'b>,
     tokens: &[Token],
     at: u32,
     form: Reserved,
     version: u32,
-) -> ReadPart<Prefix>
+) -> ReadPart<Prefix<'b>>
     requires text { IsTextOf version tokens.now }
     requires first { IsThere tokens.now at (kinds.Reserved form) }
     requires form { (form ≡ word.Begin) ⊎ ((form ≡ word.End)
         ⊎ ((form ≡ word.EndMany) × ((version == 2) ≡ true))) }
     ensures { Reads prefix_of whole_prefix (IsWholePrefix (version == 2)) result tokens.now at }
 {
-    let (label, next) = message_at(alloc, tokens, at + 1, version)?;
+    let (label, next) = message_at(room, tokens, at + 1, version)?;
     let span = span_between(tokens, at, next);
     match form {
         Reserved::Begin => Ok((Prefix::Begin { label, span }, next)),
@@ -182,24 +187,24 @@ fn label_at(
 }
 
 /// `cast M is (x: T)`, where the token of number `at` is its first.
-fn cast_at(alloc: Global, tokens: &[Token], at: u32, version: u32) -> ReadPart<Prefix>
+fn cast_at<'b>(room: Room<'b>, tokens: &[Token], at: u32, version: u32) -> ReadPart<Prefix<'b>>
     requires text { IsTextOf version tokens.now }
     requires first { IsThere tokens.now at (kinds.Reserved word.Cast) }
     ensures { Reads prefix_of whole_prefix (IsWholePrefix (version == 2)) result tokens.now at }
 {
-    let (whole, open) = whole_at(alloc, tokens, at + 1, version)?;
-    let (bound, next) = closed_at(alloc, tokens, open, Mark::ParenOpen, version)?;
+    let (whole, open) = whole_at(room, tokens, at + 1, version)?;
+    let (bound, next) = closed_at(room, tokens, open, Mark::ParenOpen, version)?;
     let span = span_between(tokens, at, next);
     Ok((Prefix::Cast { whole, bound, span }, next))
 }
 
 /// `new (x: T)`, where the token of number `at` is its first.
-fn new_at(alloc: Global, tokens: &[Token], at: u32, version: u32) -> ReadPart<Prefix>
+fn new_at<'b>(room: Room<'b>, tokens: &[Token], at: u32, version: u32) -> ReadPart<Prefix<'b>>
     requires text { IsTextOf version tokens.now }
     requires first { IsThere tokens.now at (kinds.Reserved word.New) }
     ensures { Reads prefix_of whole_prefix (IsWholePrefix (version == 2)) result tokens.now at }
 {
-    let (bound, next) = closed_at(alloc, tokens, at + 1, Mark::ParenOpen, version)?;
+    let (bound, next) = closed_at(room, tokens, at + 1, Mark::ParenOpen, version)?;
     let span = span_between(tokens, at, next);
     Ok((Prefix::New { bound, span }, next))
 }
@@ -219,7 +224,12 @@ fn reserved_word(tokens: &[Token], at: u32) -> Option<Reserved>
 
 /// The part of a process form that the tokens from number `at` on begin with, in a text of the version, and the number of the
 /// token behind it. Where they begin with none that is within the nesting limits, the faults are as `message_at` has them.
-pub fn prefix_at(alloc: Global, tokens: &[Token], at: u32, version: u32) -> ReadPart<Prefix>
+pub fn prefix_at<'b>(
+    room: Room<'b>,
+    tokens: &[Token],
+    at: u32,
+    version: u32,
+) -> ReadPart<Prefix<'b>>
     requires text { IsTextOf version tokens.now }
     ensures { Reads prefix_of whole_prefix (IsWholePrefix (version == 2)) result tokens.now at }
 {
@@ -227,21 +237,21 @@ pub fn prefix_at(alloc: Global, tokens: &[Token], at: u32, version: u32) -> Read
         return Err(ParseFault::Syntax { token: at });
     };
     match word {
-        Reserved::Split => split_at(alloc, tokens, at, version),
-        Reserved::Match => match_at(alloc, tokens, at, version),
-        Reserved::Decrypt => decrypt_at(alloc, tokens, at, version),
-        Reserved::Check => check_at(alloc, tokens, at, version),
-        Reserved::Begin => label_at(alloc, tokens, at, Reserved::Begin, version),
-        Reserved::End => label_at(alloc, tokens, at, Reserved::End, version),
+        Reserved::Split => split_at(room, tokens, at, version),
+        Reserved::Match => match_at(room, tokens, at, version),
+        Reserved::Decrypt => decrypt_at(room, tokens, at, version),
+        Reserved::Check => check_at(room, tokens, at, version),
+        Reserved::Begin => label_at(room, tokens, at, Reserved::Begin, version),
+        Reserved::End => label_at(room, tokens, at, Reserved::End, version),
         Reserved::EndMany => {
             if version == 2 {
-                label_at(alloc, tokens, at, Reserved::EndMany, version)
+                label_at(room, tokens, at, Reserved::EndMany, version)
             } else {
                 Err(ParseFault::Syntax { token: at })
             }
         }
-        Reserved::Cast => cast_at(alloc, tokens, at, version),
-        Reserved::New => new_at(alloc, tokens, at, version),
+        Reserved::Cast => cast_at(room, tokens, at, version),
+        Reserved::New => new_at(room, tokens, at, version),
         _ => Err(ParseFault::Syntax { token: at }),
     }
 }

@@ -1,6 +1,6 @@
 //! Lines.
 
-ghost use Rattle.std.specs.Prelude.{◌≤◌, ◌==◌, [], false, length, codes, Ok, IfOk};
+ghost use Rattle.std.specs.Prelude.{◌≤◌, ◌==◌, ◌↔◌, [], false, length, codes, Ok, IfOk, IsTrue};
 ghost use Rattle.spi_lex.specs.declared.token.Kind.TheVariants as kinds;
 ghost use Rattle.spi_lex.specs.declared.token.Mark.TheVariants as mark;
 ghost use Rattle.spi_tree.specs.declared.tree.SWord as words;
@@ -20,36 +20,35 @@ use spi_heading::{
 };
 use spi_lex::{Mark, Token};
 use spi_parse::message_at;
-use spi_tree::{SMsg, SWord};
-use std::alloc::Global;
+use spi_tree::{Room, SMsg, SWord};
 
 /// `A: X;`, where the role is read and the colon stands behind it.
-fn local_at(
-    alloc: Global,
+fn local_at<'b>(
+    room: Room<'b>,
     tokens: &[Token],
     at: u32,
     role: SWord,
     colon: u32,
     version: u32,
-) -> ReadPart<Line>
+) -> ReadPart<Line<'b>>
     requires text { IsTextOf version tokens.now }
     requires first { TakesWord (Ok (role, colon)) tokens.now at }
     requires colon { IsThere tokens.now colon (kinds.Mark mark.Colon) }
     ensures { Reads line_of whole_line (IsWholeLine (version == 2)) result tokens.now at }
 {
-    let (prefix, end) = prefix_at(alloc, tokens, colon + 1, version)?;
+    let (prefix, end) = prefix_at(room, tokens, colon + 1, version)?;
     let next = take_mark(tokens, end, Mark::Semicolon)?;
     let span = span_between(tokens, at, next);
     Ok((Line::Local { role, prefix, span }, next))
 }
 
 /// `B on c: M`, from the token of number `at` on.
-fn addressed_at(
-    alloc: Global,
+fn addressed_at<'b>(
+    room: Room<'b>,
     tokens: &[Token],
     at: u32,
     version: u32,
-) -> ReadPart<(SWord, SWord, SMsg)>
+) -> ReadPart<(SWord, SWord, SMsg<'b>)>
     requires text { IsTextOf version tokens.now }
     requires start { at ≤ length tokens.now }
     ensures read { let pieces = λ (x : words.SWord × words.SWord × Msg). a_word false x.0
@@ -59,32 +58,32 @@ fn addressed_at(
         result tokens.now at }
     ensures within { IfOk result (λ r. r.1 ≤ length tokens.now) }
 {
-    let (to, on) = take_word(alloc, tokens, at)?;
+    let (to, on) = take_word(room.alloc, tokens, at)?;
     let channel_at = take_spelled(tokens, on, "on")?;
-    let (channel, colon) = take_word(alloc, tokens, channel_at)?;
+    let (channel, colon) = take_word(room.alloc, tokens, channel_at)?;
     let datum_at = take_mark(tokens, colon, Mark::Colon)?;
-    let (datum, next) = message_at(alloc, tokens, datum_at, version)?;
+    let (datum, next) = message_at(room, tokens, datum_at, version)?;
     Ok(((to, channel, datum), next))
 }
 
 /// `A to B on c: M as x;`, where the sender is read and no colon stands behind it.
-fn pass_at(
-    alloc: Global,
+fn pass_at<'b>(
+    room: Room<'b>,
     tokens: &[Token],
     at: u32,
     from: SWord,
     behind: u32,
     version: u32,
-) -> ReadPart<Line>
+) -> ReadPart<Line<'b>>
     requires text { IsTextOf version tokens.now }
     requires first { TakesWord (Ok (from, behind)) tokens.now at }
     requires other { IsThere tokens.now behind (kinds.Mark mark.Colon) → ⊥ }
     ensures { Reads line_of whole_line (IsWholeLine (version == 2)) result tokens.now at }
 {
     let receiver = take_spelled(tokens, behind, "to")?;
-    let (addressed, as_at) = addressed_at(alloc, tokens, receiver, version)?;
+    let (addressed, as_at) = addressed_at(room, tokens, receiver, version)?;
     let name_at = take_spelled(tokens, as_at, "as")?;
-    let (name, end) = take_word(alloc, tokens, name_at)?;
+    let (name, end) = take_word(room.alloc, tokens, name_at)?;
     let next = take_mark(tokens, end, Mark::Semicolon)?;
     let (to, channel, datum) = addressed;
     let span = span_between(tokens, at, next);
@@ -104,21 +103,23 @@ fn pass_at(
 /// Lines up to the end, as repeated parts.
 pub struct Lines;
 
-impl RepeatedPart for Lines {
-    type Read = Line;
+impl<'b> RepeatedPart<'b> for Lines {
+    type Read = Line<'b>;
 
     ghost kind = { line_kind };
 
-    fn begins_at(tokens: &[Token], at: u32) -> bool {
+    fn begins_at(tokens: &[Token], at: u32) -> bool
+        ensures { IsTrue result ↔ line_kind.Begins tokens.now at }
+    {
         (at as usize) < tokens.len()
     }
 
-    fn part_at(alloc: Global, tokens: &[Token], at: u32, version: u32) -> ReadPart<Line> {
-        let (role, behind) = take_word(alloc, tokens, at)?;
+    fn part_at(room: Room<'b>, tokens: &[Token], at: u32, version: u32) -> ReadPart<Line<'b>> {
+        let (role, behind) = take_word(room.alloc, tokens, at)?;
         if mark_at(tokens, behind, Mark::Colon) {
-            local_at(alloc, tokens, at, role, behind, version)
+            local_at(room, tokens, at, role, behind, version)
         } else {
-            pass_at(alloc, tokens, at, role, behind, version)
+            pass_at(room, tokens, at, role, behind, version)
         }
     }
 }

@@ -9,10 +9,10 @@ ghost use Rattle.spi_narrate.specs.Views.{narration_of};
 use crate::lines::Lines;
 use crate::roles::roles_at;
 use crate::tree::Narration;
-use spi_heading::{heading_at, parts_at, span_between};
+use spi_heading::{Heading, heading_at, parts_at, span_between};
 use spi_lex::Token;
 use spi_parse::ParseFault;
-use std::alloc::Global;
+use spi_tree::Room;
 
 /// The narration whose tokens these are, with the spans of its nodes and words, or the first fault. Roles and limits aren't
 /// looked at.
@@ -20,20 +20,25 @@ use std::alloc::Global;
 /// A fault names its token by its number from 0. `Syntax` is at the token with which no narration goes on, and at the end it
 /// is the number of tokens. `TooDeep` is at the first token at which a node of some narration starts that is above its nesting
 /// limit. `NoMemory` comes where memory runs out.
-pub fn parse_narration(alloc: Global, tokens: &[Token]) -> Result<Narration, ParseFault>
+pub fn parse_narration<'b>(room: Room<'b>, tokens: &[Token]) -> Result<Narration<'b>, ParseFault>
     requires size { length tokens.now ≤ 16_777_216 }
     requires words { AreWordsFit (is_version_2 (kinds_of tokens.now)) (kinds_of tokens.now) }
     ensures { ParsesNarration narration_of result tokens.now }
 {
-    let (heading, roles_start) = heading_at(alloc, tokens)?;
-    let (roles, lines_start) = roles_at(alloc, tokens, roles_start, heading.version)?;
-    let (lines, end) = parts_at::<Lines>(alloc, tokens, lines_start, heading.version)?;
+    let (heading, roles_start) = heading_at(room, tokens)?;
+    let Heading {
+        version,
+        decls,
+        shared,
+    } = heading;
+    let (roles, lines_start) = roles_at(room, tokens, roles_start, version)?;
+    let (lines, end) = parts_at::<Lines>(room, tokens, lines_start, version)?;
     let (first, more) = roles;
     let span = span_between(tokens, 0, end);
     Ok(Narration {
-        version: heading.version,
-        decls: heading.decls,
-        shared: heading.shared,
+        version,
+        decls,
+        shared,
         first,
         more,
         lines,

@@ -6,22 +6,23 @@ use spi_tree::{Decl, SMsg, SWord};
 
 /// A narration: `["version" 2 ";"]? {Decl}* {Shared}* "roles" A, B, ..; {Line}*`. The first role stands apart, since there is one.
 #[derive(Drop)]
-pub struct Narration {
+pub struct Narration<'b> {
     pub version: u32,
-    pub decls: Vec<Decl>,
-    pub shared: Vec<Shared>,
+    pub decls: Vec<Decl<'b>>,
+    pub shared: Vec<Shared<'b>>,
     pub first: SWord,
     pub more: Vec<SWord>,
-    pub lines: Vec<Line>,
+    pub lines: Vec<Line<'b>>,
     pub span: Span,
 }
 
 /// A line of a narration.
-pub enum Line {
+#[derive(Drop)]
+pub enum Line<'b> {
     /// `A: X;`
     Local {
         role: SWord,
-        prefix: Prefix,
+        prefix: Prefix<'b>,
         span: Span,
     },
     /// `A to B on c: M as x;`
@@ -29,126 +30,67 @@ pub enum Line {
         from: SWord,
         to: SWord,
         channel: SWord,
-        datum: SMsg,
+        datum: SMsg<'b>,
         name: SWord,
         span: Span,
     },
 }
 
-impl Drop for Line {
-    fn drop(self) {
-        match self {
-            Line::Local {
-                role: _,
-                prefix: _,
-                span: _,
-            } => {}
-            Line::Pass {
-                from: _,
-                to: _,
-                channel: _,
-                datum: _,
-                name: _,
-                span: _,
-            } => {}
-        }
-    }
-}
-
 /// What a role does by itself: the part of a process form before `; P`.
-pub enum Prefix {
+#[derive(Drop)]
+pub enum Prefix<'b> {
     /// `split M is (x: T, y: U)`
     Split {
-        whole: SMsg,
-        left: Named,
-        right: Named,
+        whole: SMsg<'b>,
+        left: Named<'b>,
+        right: Named<'b>,
         span: Span,
     },
     /// `match M is (x: T = N, y: U)`
     Match {
-        whole: SMsg,
-        left: Named,
-        equal: SMsg,
-        right: Named,
+        whole: SMsg<'b>,
+        left: Named<'b>,
+        equal: SMsg<'b>,
+        right: Named<'b>,
         span: Span,
     },
     /// `decrypt M is {x: T}N`
     Decrypt {
-        whole: SMsg,
-        bound: Named,
-        key: SMsg,
+        whole: SMsg<'b>,
+        bound: Named<'b>,
+        key: SMsg<'b>,
         span: Span,
     },
     /// `check M is N`
     Check {
-        whole: SMsg,
-        nonce: SMsg,
+        whole: SMsg<'b>,
+        nonce: SMsg<'b>,
         span: Span,
     },
     /// `begin L`
     Begin {
-        label: SMsg,
+        label: SMsg<'b>,
         span: Span,
     },
     /// `end L`
     End {
-        label: SMsg,
+        label: SMsg<'b>,
         span: Span,
     },
     /// `endmany L`, in version 2
     EndMany {
-        label: SMsg,
+        label: SMsg<'b>,
         span: Span,
     },
     /// `cast M is (x: T)`
     Cast {
-        whole: SMsg,
-        bound: Named,
+        whole: SMsg<'b>,
+        bound: Named<'b>,
         span: Span,
     },
     /// `new (x: T)`
     New {
-        bound: Named,
+        bound: Named<'b>,
         span: Span,
     },
-}
-
-impl Drop for Prefix {
-    fn drop(self) {
-        match self {
-            Prefix::Split {
-                whole: _,
-                left: _,
-                right: _,
-                span: _,
-            } => {}
-            Prefix::Match {
-                whole: _,
-                left: _,
-                equal: _,
-                right: _,
-                span: _,
-            } => {}
-            Prefix::Decrypt {
-                whole: _,
-                bound: _,
-                key: _,
-                span: _,
-            } => {}
-            Prefix::Check {
-                whole: _,
-                nonce: _,
-                span: _,
-            } => {}
-            Prefix::Begin { label: _, span: _ } => {}
-            Prefix::End { label: _, span: _ } => {}
-            Prefix::EndMany { label: _, span: _ } => {}
-            Prefix::Cast {
-                whole: _,
-                bound: _,
-                span: _,
-            } => {}
-            Prefix::New { bound: _, span: _ } => {}
-        }
-    }
 }

@@ -16,6 +16,7 @@ use spi_honest::{FreeNames, HonestFault, schedule_of};
 use spi_narrate::{Line, Narration};
 use spi_scope::{File, ScopeFault, resolve};
 use spi_text::{Span, Text};
+use spi_tree::Room;
 use spi_weave::weave;
 use std::alloc::{AllocError, Global};
 use std::mem::replace;
@@ -65,10 +66,11 @@ fn is_out_of_memory(fault: &ScopeFault) -> bool
 
 /// The file that a narration is woven into, with an honest schedule, or its first refusal. Each role of its lines is declared
 /// once, and it keeps the limits of narrations. Its only error is NoMemory.
-pub fn tell(alloc: Global, n: &Narration) -> Result<Answer, NoMemory>
+pub fn tell<'b>(room: Room<'b>, n: &Narration<'b>) -> Result<Answer, NoMemory>
     requires { IsTellable (narration_of n.now) }
     ensures { IfOk result (IsNarrationAnswer (narration_of n.now)) }
 {
+    let alloc = room.alloc;
     let names = FreeNames::of(alloc, &n.decls)?;
     if let Some(word) = first_not_free(&names, &n.lines) {
         return Ok(Answer::Refused(Refusal::NotFree {
@@ -76,7 +78,7 @@ pub fn tell(alloc: Global, n: &Narration) -> Result<Answer, NoMemory>
             word: Text::of(alloc, word.word.as_str())?,
         }));
     }
-    let tree = weave(alloc, n)?;
+    let tree = weave(room, n)?;
     match resolve(alloc, &tree) {
         Ok(file) => scheduled(alloc, n, file),
         Err(fault) => {

@@ -1,5 +1,5 @@
 -- An answer on the tokens from a number on is what reading gives there.
-use Rattle.std.proofs.Common.{◌≡◌, ℕ, ◌≤◌, Bool, false, ◌-◌, List, [], ◌∷◌, map, take, drop, length, Result, Ok, Err, refl, sym, ap, subst, ◌∙◌, arith, length-drop}
+use Rattle.std.proofs.Common.{◌≡◌, ℕ, ◌≤◌, Bool, false, ◌-◌, List, map, take, drop, length, Result, Ok, Err, refl, sym, ap, subst, ◌∙◌, arith, length-drop}
 use Rattle.std.proofs.lemmas.List.{length-map, take_all}
 use Rattle.std.specs.Prelude.{MatchResult}
 use Rattle.spi_lex.specs.declared.token.Token.{Token}

@@ -1,10 +1,10 @@
 -- A text has no more tokens than bytes.
-use Rattle.std.proofs.Common.{◌≡◌, ℕ, zero, suc, ◌+◌, ◌≤◌, Bool, true, false, inl, inr, Option, Some, None, List, [], ◌∷◌, length, take, drop, arith}
+use Rattle.std.proofs.Common.{ℕ, zero, suc, ◌+◌, ◌≤◌, Bool, inl, inr, Option, Some, None, List, length, take, drop, arith}
 use Rattle.std.proofs.lemmas.Bool.{cases_Bool}
 use Rattle.spi_lex.specs.declared.token.Token.{Token}
 use Rattle.spi_lex.specs.Lexeme.{Lexeme}
 use Rattle.spi_lex.specs.Front.{lexeme_of}
-use Rattle.spi_lex.specs.Left.{Found, front_at, is_allowed, tokens_by, tokens_at, left, left_of}
+use Rattle.spi_lex.specs.Left.{Found, front_at, is_allowed, tokens_by, tokens_at, left}
 
 by_short : (n : ℕ) (later : Bool) (at : ℕ) (behind : ℕ → List Token) → ((k : ℕ) → length (behind k) ≤ n) → (m : ℕ) (o : Option Lexeme) → length (tokens_by later at behind m o) ≤ suc n
 by_short n later at behind few m None = let k = few m in omega arith

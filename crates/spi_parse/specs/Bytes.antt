@@ -17,7 +17,8 @@ start_of_fault bytes (token ∷ rest) = token.span.from
 -- the token that begins at this place on.
 abbrev pub ParsesBytes : {V : Type 0} → (V → t.File) → Result V ByteFault → List ℕ → Type 0
 ParsesBytes view (Ok tree) bytes =
-    (tokens : List Token) × Lexes bytes (Ok tokens) × IsFile (view tree) × Spells [] 0 (whole_file (view tree)) tokens
+    (tokens : List Token) × Lexes bytes (Ok tokens) × IsFile (view tree)
+    × Spells [] 0 (whole_file (view tree)) tokens
 ParsesBytes view (Err (faults.Lexical fault)) bytes = Lexes bytes (Err fault)
 ParsesBytes view (Err (faults.Syntax at)) bytes = (tokens : List Token) × (i : ℕ) × Lexes bytes (Ok tokens)
     × IsSyntaxAt whole_file IsFile (kinds_of tokens) i × (at ≡ start_of_fault bytes (drop i tokens))

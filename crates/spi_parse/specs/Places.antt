@@ -1,6 +1,5 @@
 -- What a cursor is as a state, and what stands between the table and the code.
-use Rattle.std.specs.Prelude.{Bool, false, ℕ, ◌+◌, List, [], ◌∷◌, map, Option, Some, None, Result, Ok, Err}
-use Rattle.std.specs.Global.{Box}
+use Rattle.std.specs.Prelude.{Bool, ℕ, ◌+◌, List, [], ◌∷◌, map, Option, Some, None, Result, Ok, Err}
 use denote.Ref.{Bor}
 use Rattle.spi_text.specs.declared.lines.Span.{Span}
 use Rattle.spi_lex.specs.declared.token.Kind.TheVariants as K
@@ -37,7 +36,9 @@ behind r = map tok (behind_next r.list r.words)
 
 -- the tokens that are left, the next one first
 abbrev pub tokens_in : Reader → List Token
-tokens_in r = tokens_from (seen_kind r.words.kind) (record { from = r.words.from; to = r.words.to }) (behind_next r.list r.words)
+tokens_in r =
+    tokens_from (seen_kind r.words.kind) (record { from = r.words.from; to = r.words.to })
+    (behind_next r.list r.words)
 
 abbrev pub state_of : Reader → State
 state_of r = record { end = r.end; rest = map tok (tokens_in r) }
@@ -50,9 +51,9 @@ past s rest = elim (s.rest) [ [] ↦ s | t ∷ ts ↦ record { end = t.span.to; 
 abbrev pub GivesPart : {X Y : Type 0} → (X → Y) → Result X Stop → State → Out Y → Type 0
 GivesPart view result after answer = Gives (λ x. (view x, after)) result answer
 
--- the same of a part in a box
-abbrev pub GivesBox : {X Y : Type 0} → (X → Y) → Result (Box X) Stop → State → Out Y → Type 0
-GivesBox view result after answer = Gives (λ x. (view x.value, after)) result answer
+-- the same of a part in a place of its own
+abbrev pub GivesPlaced : {X Y : Type 0} → (X → Y) → Result (Bor X) Stop → State → Out Y → Type 0
+GivesPlaced view result after answer = Gives (λ x. (view x.now, after)) result answer
 
 -- the same of a name with its type
 abbrev pub GivesName : Result (SWord × STy) Stop → State → Out (SWord × t.Ty) → Type 0

@@ -1,11 +1,11 @@
-//! Parts of trees in boxes.
+//! Parts of trees in places of their own.
 
-ghost use Rattle.spi_parse.specs.Places.{state_of, GivesBox};
+ghost use Rattle.spi_parse.specs.Places.{state_of, GivesPlaced};
 ghost use Rattle.spi_parse.specs.Ends.{done};
 
 use crate::cursor::Reader;
 use crate::fault::Stop;
-use std::alloc::Global;
+use spi_tree::{Room, placed};
 
 /// A part of a tree.
 pub trait TreePart: Drop {
@@ -16,13 +16,10 @@ pub trait TreePart: Drop {
     ghost view: { Self → Tree };
 }
 
-/// The part as a box, with the place behind it.
-///
-/// What reads a ciphertext or a sum holds its part as a box while it reads the next, so that deep trees fit the stack. The
-/// parts of a tuple are small, and wait as values, as a process does, whose own parts lie in a box.
+/// The part in a place of its own, with the place behind it among the tokens.
 #[inline(always)]
-pub fn boxed<T: TreePart>(alloc: Global, tree: T, at: &Reader<'_>) -> Result<Box<T>, Stop>
-    ensures { GivesBox T.view result (state_of at.now) (done (T.view tree) (state_of at.now)) }
+pub fn put<'b, T: TreePart>(room: Room<'b>, tree: T, at: &Reader<'_>) -> Result<&'b T, Stop>
+    ensures { GivesPlaced T.view result (state_of at.now) (done (T.view tree) (state_of at.now)) }
 {
-    Ok(Box::new(alloc, tree)?)
+    Ok(placed(room, tree)?)
 }

@@ -1,7 +1,7 @@
 //! The tree of a file's bytes.
 
-ghost use Rattle.std.specs.Prelude.{◌≡◌, ◌-◌, ◌≤◌, ℕ, List, length, drop, Ok, Err};
-ghost use Rattle.spi_lex.specs.Lexing.{Lexes, IsLexFault};
+ghost use Rattle.std.specs.Prelude.{◌≡◌, ◌-◌, ◌≤◌, length, drop, Ok, Err};
+ghost use Rattle.spi_lex.specs.Lexing.{Lexes};
 ghost use Rattle.spi_lex.specs.Left.{tokens_in, end_of};
 ghost use Rattle.spi_tree.specs.declared.tree.Tree.{Tree};
 ghost use Rattle.spi_tree.specs.Views.{file_of};
@@ -12,9 +12,8 @@ ghost use Rattle.spi_parse.specs.Bytes.{ParsesBytes, start_of_fault};
 use crate::cursor::{Reader, syntax};
 use crate::fault::{ByteFault, Fault, Stop};
 use crate::files::read_file;
-use spi_lex::{LexFault, Seen, Words, ends_behind, fault_in, text_of};
-use spi_tree::Tree;
-use std::alloc::Global;
+use spi_lex::{Seen, Words, ends_behind, fault_in, text_of};
+use spi_tree::{Room, Tree};
 
 /// The tree that a file's bytes spell, with the spans of its nodes and words, or the first fault. It is what `parse` gives of
 /// what `lex` gives, but the tokens are taken one by one, and are never all there at once.
@@ -23,23 +22,23 @@ use std::alloc::Global;
 /// goes on, and `TooDeep` at the first token at which a node of some tree starts that is above its nesting limit: each
 /// names the offset at which the token begins, and behind all tokens the number of bytes. `NoMemory` comes where memory
 /// runs out.
-pub fn parse_bytes(alloc: Global, bytes: &[u8]) -> Result<Tree, ByteFault>
+pub fn parse_bytes<'b>(room: Room<'b>, bytes: &[u8]) -> Result<Tree<'b>, ByteFault>
     requires { length bytes.now ≤ 16_777_216 }
     ensures { ParsesBytes file_of result bytes.now }
 {
     match text_of(bytes) {
-        Ok(text) => parse_text(alloc, text),
+        Ok(text) => parse_text(room, text),
         Err(fault) => Err(ByteFault::Lexical(fault)),
     }
 }
 
 /// The tree that a text spells, or the first fault.
-fn parse_text(alloc: Global, text: &str) -> Result<Tree, ByteFault>
+fn parse_text<'b>(room: Room<'b>, text: &str) -> Result<Tree<'b>, ByteFault>
     requires { length text.now ≤ 16_777_216 }
     ensures { ParsesBytes file_of result text.now }
 {
     let mut at = Reader::of_text(text);
-    match read_file(alloc, &mut at) {
+    match read_file(room, &mut at) {
         Ok(tree) => match at.first() {
             Err(_) => whole(text, at.end, tree),
             Ok(_) => Err(fault_at(text, syntax(&at))),
@@ -49,7 +48,7 @@ fn parse_text(alloc: Global, text: &str) -> Result<Tree, ByteFault>
 }
 
 /// The tree of all the tokens that come from a text, the last of which ends here, if these are the text's.
-fn whole(text: &str, end: u32, tree: Tree) -> Result<Tree, ByteFault>
+fn whole<'b>(text: &str, end: u32, tree: Tree<'b>) -> Result<Tree<'b>, ByteFault>
     requires within { length text.now ≤ 16_777_216 }
     requires end { end ≡ end_of 0 (tokens_in text.now) }
     requires tree { Parses file_of (Ok tree) (tokens_in text.now) }
@@ -59,18 +58,8 @@ fn whole(text: &str, end: u32, tree: Tree) -> Result<Tree, ByteFault>
         return Ok(tree);
     }
     match fault_in(text) {
-        Some(fault) => Err(lexical(fault)),
+        Some(fault) => Err(ByteFault::Lexical(fault)),
         None => Ok(tree),
-    }
-}
-
-/// A fault of tokens.
-fn lexical(fault: LexFault) -> ByteFault
-    ensures { (bytes : List ℕ) → IsLexFault bytes fault → ParsesBytes {V = Tree} file_of (Err result) bytes }
-{
-    match fault {
-        LexFault::NoMemory => ByteFault::NoMemory,
-        _ => ByteFault::Lexical(fault),
     }
 }
 
@@ -82,7 +71,7 @@ fn fault_at(text: &str, stop: Stop) -> ByteFault
     ensures { ParsesBytes {V = Tree} file_of (Err result) text.now }
 {
     match fault_in(text) {
-        Some(fault) => lexical(fault),
+        Some(fault) => ByteFault::Lexical(fault),
         None => placed(text, stop),
     }
 }
@@ -109,7 +98,8 @@ fn placed(text: &str, stop: Stop) -> ByteFault
 /// Where the token begins from which on so many are left, and where the text ends if none is.
 fn start(text: &str, left: usize) -> u32
     requires { length text.now ≤ 16_777_216 }
-    ensures { result ≡ start_of_fault text.now (drop (length (tokens_in text.now) - left) (tokens_in text.now)) }
+    ensures { result
+        ≡ start_of_fault text.now (drop (length (tokens_in text.now) - left) (tokens_in text.now)) }
 {
     let mut ahead = count(text).saturating_sub(left);
     let mut words = Words::of(text);

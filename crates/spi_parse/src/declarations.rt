@@ -15,11 +15,12 @@ use crate::seen::Seen;
 use crate::types::read_type;
 use spi_lex::{Mark, Reserved};
 use spi_text::Span;
-use spi_tree::{Decl, STy, SWord};
+use spi_tree::{Decl, Room, STy, SWord};
 use std::alloc::Global;
 
 fn next_word(alloc: Global, at: &mut Reader<'_>) -> Result<Option<SWord>, Stop>
-    ensures { GivesPart (item_of (λ w. w) tt) result (state_of at.new) (read limited words_item (state_of at.old)) }
+    ensures { GivesPart (item_of (λ w. w) tt) result (state_of at.new)
+        (read limited words_item (state_of at.old)) }
 {
     let first = at.first()?;
     match first.kind {
@@ -61,30 +62,34 @@ fn free_words(alloc: Global, at: &mut Reader<'_>) -> Result<(SWord, Vec<SWord>),
 }
 
 /// The name and the type of an abbreviation.
-fn abbreviation(alloc: Global, at: &mut Reader<'_>, later: bool) -> Result<(SWord, STy), Stop>
+fn abbreviation<'b>(
+    room: Room<'b>,
+    at: &mut Reader<'_>,
+    later: bool,
+) -> Result<(SWord, STy<'b>), Stop>
     ensures { GivesPart (λ x. (x.0, ty_of x.1, (state_of at.new).end)) result (state_of at.new)
         (read limited (abbr_rest later) (state_of at.old)) }
 {
     at.first()?;
-    let name = take_word(alloc, at)?;
-    let ty = abbreviated(alloc, at, later)?;
+    let name = take_word(room.alloc, at)?;
+    let ty = abbreviated(room, at, later)?;
     Ok((name, ty))
 }
 
 /// The type behind the name of an abbreviation, with the marks round it.
-fn abbreviated(alloc: Global, at: &mut Reader<'_>, later: bool) -> Result<STy, Stop>
+fn abbreviated<'b>(room: Room<'b>, at: &mut Reader<'_>, later: bool) -> Result<STy<'b>, Stop>
     ensures { GivesPart (λ a. (tt, (ty_of a, (tt, tt)))) result (state_of at.new)
         (read_all (read limited) (the_mark Equals ∷ ty later 1 ∷ the_mark Semicolon ∷ [])
         (state_of at.old)) }
 {
     take_mark(at, Mark::Equals)?;
-    let ty = read_type(alloc, at, later, 1)?;
+    let ty = read_type(room, at, later, 1)?;
     take_mark(at, Mark::Semicolon)?;
     Ok(ty)
 }
 
 /// The declaration of these free names, which ends before this place.
-fn declared_free(first: Span, name: SWord, more: Vec<SWord>, at: &Reader<'_>) -> Decl
+fn declared_free<'b>(first: Span, name: SWord, more: Vec<SWord>, at: &Reader<'_>) -> Decl<'b>
     ensures { decl_of result ≡ free (over (first ∷ []) (state_of at.now).end) name more.items }
 {
     let span = span_from(first, at);
@@ -96,20 +101,20 @@ fn declared_free(first: Span, name: SWord, more: Vec<SWord>, at: &Reader<'_>) ->
 }
 
 /// A declaration.
-pub fn declaration(alloc: Global, at: &mut Reader<'_>, later: bool) -> Result<Decl, Stop>
+pub fn declaration<'b>(room: Room<'b>, at: &mut Reader<'_>, later: bool) -> Result<Decl<'b>, Stop>
     ensures { GivesPart decl_of result (state_of at.new) (read limited (decl later) (state_of at.old)) }
 {
     let first = at.first()?;
     match first.kind {
         Seen::Reserved(Reserved::Free) => {
             at.advance();
-            let (name, more) = free_words(alloc, at)?;
+            let (name, more) = free_words(room.alloc, at)?;
             let free = declared_free(first.span, name, more, at);
             Ok(free)
         }
         Seen::Reserved(Reserved::TypeWord) => {
             at.advance();
-            let (name, ty) = abbreviation(alloc, at, later)?;
+            let (name, ty) = abbreviation(room, at, later)?;
             let span = span_from(first.span, at);
             Ok(Decl::Abbr { name, ty, span })
         }
@@ -117,20 +122,25 @@ pub fn declaration(alloc: Global, at: &mut Reader<'_>, later: bool) -> Result<De
     }
 }
 
-fn next_declaration(alloc: Global, at: &mut Reader<'_>, later: bool) -> Result<Option<Decl>, Stop>
-    ensures { GivesPart (item_of decl_of tt) result (state_of at.new) (read limited (decls_item later) (state_of at.old)) }
+fn next_declaration<'b>(
+    room: Room<'b>,
+    at: &mut Reader<'_>,
+    later: bool,
+) -> Result<Option<Decl<'b>>, Stop>
+    ensures { GivesPart (item_of decl_of tt) result (state_of at.new)
+        (read limited (decls_item later) (state_of at.old)) }
 {
     let first = at.first()?;
     match first.kind {
         Seen::Reserved(Reserved::Free) => {
             at.advance();
-            let (name, more) = free_words(alloc, at)?;
+            let (name, more) = free_words(room.alloc, at)?;
             let free = declared_free(first.span, name, more, at);
             Ok(Some(free))
         }
         Seen::Reserved(Reserved::TypeWord) => {
             at.advance();
-            let (name, ty) = abbreviation(alloc, at, later)?;
+            let (name, ty) = abbreviation(room, at, later)?;
             let span = span_from(first.span, at);
             Ok(Some(Decl::Abbr { name, ty, span }))
         }
@@ -143,13 +153,17 @@ fn next_declaration(alloc: Global, at: &mut Reader<'_>, later: bool) -> Result<O
 }
 
 /// The declarations, with the word `process`.
-pub fn all_declarations(alloc: Global, at: &mut Reader<'_>, later: bool) -> Result<Vec<Decl>, Stop>
+pub fn all_declarations<'b>(
+    room: Room<'b>,
+    at: &mut Reader<'_>,
+    later: bool,
+) -> Result<Vec<Decl<'b>>, Stop>
     ensures { GivesPart (λ v. (map decl_of v.items, tt)) result (state_of at.new)
         (read limited (decls later) (state_of at.old)) }
 {
-    let mut more = Vec::new(alloc);
+    let mut more = Vec::new(room.alloc);
     'items: loop {
-        let item = next_declaration(alloc, at, later)?;
+        let item = next_declaration(room, at, later)?;
         match item {
             Some(part) => more.push(part)?,
             None => return Ok(more),

@@ -19,11 +19,10 @@ use crate::messages::Node;
 use crate::seen::Seen;
 use spi_rules::Rule;
 use spi_text::Span;
-use spi_tree::{SAtom, SDeriv, SWord};
-use std::alloc::Global;
+use spi_tree::{Room, SDeriv, SEffect, SWord, placed, row};
 
 /// A use of a rule, with the place behind it.
-type Part = Result<SDeriv, Stop>;
+type Part<'b> = Result<SDeriv<'b>, Stop>;
 
 /// What stands behind the word of a rule.
 #[derive(Clone, Copy)]
@@ -102,9 +101,15 @@ fn shape_of(later: bool, word: &str) -> Shape
     }
 }
 
-fn make_use(rule: SWord, effect: Option<Vec<SAtom>>, premises: Vec<SDeriv>, span: Span) -> SDeriv
+fn make_use<'b>(
+    rule: SWord,
+    effect: Option<&'b SEffect<'b>>,
+    premises: Vec<SDeriv<'b>>,
+    span: Span,
+) -> SDeriv<'b>
     ensures { deriv_of result
-        ≡ trees.rule span rule (tree_effect effect) (derivs_of_list (map deriv_of premises.items)) }
+        ≡ trees.rule span rule (tree_effect effect.entry)
+        (derivs_of_list (map deriv_of premises.entry.items)) }
 {
     SDeriv {
         rule,
@@ -120,9 +125,10 @@ fn make_use(rule: SWord, effect: Option<Vec<SAtom>>, premises: Vec<SDeriv>, span
 /// derivations fit the stack.
 #[cycle(derivations)]
 #[inline(always)]
-pub fn derivation(alloc: Global, at: &mut Reader<'_>, later: bool, nesting: u32) -> Part
+pub fn derivation<'b>(room: Room<'b>, at: &mut Reader<'_>, later: bool, nesting: u32) -> Part<'b>
     requires { nesting ≤ 1001 }
-    ensures { GivesPart deriv_of result (state_of at.new) (read limited (deriv later nesting) (state_of at.old)) }
+    ensures { GivesPart deriv_of result (state_of at.new)
+        (read limited (deriv later nesting) (state_of at.old)) }
 {
     let first = at.first()?;
     let Seen::Word(word) = first.kind else {
@@ -135,99 +141,99 @@ pub fn derivation(alloc: Global, at: &mut Reader<'_>, later: bool, nesting: u32)
         Shape::NoRule => Err(syntax(at)),
         Shape::Leaf => {
             at.advance();
-            end_use(alloc, word, first.span, None, Vec::new(alloc), at)
+            end_use(room, word, first.span, None, Vec::new(room.alloc), at)
         }
         Shape::One => {
             at.advance();
-            read_one(alloc, word, first.span, at, later, nesting)
+            read_one(room, word, first.span, at, later, nesting)
         }
         Shape::Two => {
             at.advance();
-            read_two(alloc, word, first.span, at, later, nesting)
+            read_two(room, word, first.span, at, later, nesting)
         }
         Shape::Three => {
             at.advance();
-            read_three(alloc, word, first.span, at, later, nesting)
+            read_three(room, word, first.span, at, later, nesting)
         }
         Shape::Sub => {
             at.advance();
-            read_sub(alloc, word, first.span, at, later, nesting)
+            read_sub(room, word, first.span, at, later, nesting)
         }
     }
 }
 
 #[cycle(derivations)]
-fn read_one(
-    alloc: Global,
+fn read_one<'b>(
+    room: Room<'b>,
     word: &str,
     place: Span,
     at: &mut Reader<'_>,
     later: bool,
     nesting: u32,
-) -> Part
+) -> Part<'b>
     requires { nesting ≤ 1000 }
     ensures { GivesPart deriv_of result (state_of at.new)
         (one_form later nesting word.now (place ∷ []) (state_of at.old)) }
 {
-    let mut premises = Vec::with_capacity(alloc, 1)?;
-    let first = derivation(alloc, at, later, nesting + 1)?;
+    let mut premises = Vec::with_capacity(room.alloc, 1)?;
+    let first = derivation(room, at, later, nesting + 1)?;
     premises.push(first)?;
-    end_use(alloc, word, place, None, premises, at)
+    end_use(room, word, place, None, premises, at)
 }
 
 #[cycle(derivations)]
-fn read_two(
-    alloc: Global,
+fn read_two<'b>(
+    room: Room<'b>,
     word: &str,
     place: Span,
     at: &mut Reader<'_>,
     later: bool,
     nesting: u32,
-) -> Part
+) -> Part<'b>
     requires { nesting ≤ 1000 }
     ensures { GivesPart deriv_of result (state_of at.new)
         (two_form later nesting word.now (place ∷ []) (state_of at.old)) }
 {
-    let mut premises = Vec::with_capacity(alloc, 2)?;
-    let first = derivation(alloc, at, later, nesting + 1)?;
+    let mut premises = Vec::with_capacity(room.alloc, 2)?;
+    let first = derivation(room, at, later, nesting + 1)?;
     premises.push(first)?;
-    let second = derivation(alloc, at, later, nesting + 1)?;
+    let second = derivation(room, at, later, nesting + 1)?;
     premises.push(second)?;
-    end_use(alloc, word, place, None, premises, at)
+    end_use(room, word, place, None, premises, at)
 }
 
 #[cycle(derivations)]
-fn read_three(
-    alloc: Global,
+fn read_three<'b>(
+    room: Room<'b>,
     word: &str,
     place: Span,
     at: &mut Reader<'_>,
     later: bool,
     nesting: u32,
-) -> Part
+) -> Part<'b>
     requires { nesting ≤ 1000 }
     ensures { GivesPart deriv_of result (state_of at.new)
         (three_form later nesting word.now (place ∷ []) (state_of at.old)) }
 {
-    let mut premises = Vec::with_capacity(alloc, 3)?;
-    let first = derivation(alloc, at, later, nesting + 1)?;
+    let mut premises = Vec::with_capacity(room.alloc, 3)?;
+    let first = derivation(room, at, later, nesting + 1)?;
     premises.push(first)?;
-    let second = derivation(alloc, at, later, nesting + 1)?;
+    let second = derivation(room, at, later, nesting + 1)?;
     premises.push(second)?;
-    let third = derivation(alloc, at, later, nesting + 1)?;
+    let third = derivation(room, at, later, nesting + 1)?;
     premises.push(third)?;
-    end_use(alloc, word, place, None, premises, at)
+    end_use(room, word, place, None, premises, at)
 }
 
 #[cycle(derivations)]
-fn read_sub(
-    alloc: Global,
+fn read_sub<'b>(
+    room: Room<'b>,
     word: &str,
     place: Span,
     at: &mut Reader<'_>,
     later: bool,
     nesting: u32,
-) -> Part
+) -> Part<'b>
     requires { nesting ≤ 1000 }
     ensures { GivesPart deriv_of result (state_of at.new)
         (sub_form later nesting word.now (place ∷ []) (state_of at.old)) }
@@ -237,28 +243,30 @@ fn read_sub(
         numbered: true,
         nesting: 0,
     };
-    let effect = effect(alloc, at, atoms)?;
-    let mut premises = Vec::with_capacity(alloc, 1)?;
-    let first = derivation(alloc, at, later, nesting + 1)?;
+    let effect = effect(room, at, atoms)?;
+    let atoms = row(room, effect)?;
+    let effect = placed(room, SEffect { atoms })?;
+    let mut premises = Vec::with_capacity(room.alloc, 1)?;
+    let first = derivation(room, at, later, nesting + 1)?;
     premises.push(first)?;
-    end_use(alloc, word, place, Some(effect), premises, at)
+    end_use(room, word, place, Some(effect), premises, at)
 }
 
 /// The use of a rule with these premises, which ends before this place.
 #[inline(always)]
-fn end_use(
-    alloc: Global,
+fn end_use<'b>(
+    room: Room<'b>,
     word: &str,
     place: Span,
-    effect: Option<Vec<SAtom>>,
-    premises: Vec<SDeriv>,
+    effect: Option<&'b SEffect<'b>>,
+    premises: Vec<SDeriv<'b>>,
     at: &mut Reader<'_>,
-) -> Part
+) -> Part<'b>
     ensures { GivesPart deriv_of result (state_of at.new)
-        (done (trees.rule (over (place ∷ []) (state_of at.old).end) (word_at word.now place) (tree_effect effect)
-        (derivs_of_list (map deriv_of premises.items))) (state_of at.old)) }
+        (done (trees.rule (over (place ∷ []) (state_of at.old).end) (word_at word.now place)
+        (tree_effect effect.entry) (derivs_of_list (map deriv_of premises.entry.items))) (state_of at.old)) }
 {
-    let rule = placed_word(alloc, word, place)?;
+    let rule = placed_word(room.alloc, word, place)?;
     let span = span_from(place, at);
     Ok(make_use(rule, effect, premises, span))
 }

@@ -13,10 +13,10 @@ use crate::messages::{Node, any_message, message_of};
 use crate::seen::Seen;
 use spi_lex::{Mark, Reserved};
 use spi_text::Span;
-use spi_tree::SAtom;
+use spi_tree::{Room, SAtom};
 use std::alloc::Global;
 
-fn atom(alloc: Global, at: &mut Reader<'_>, node: Node) -> Result<SAtom, Stop>
+fn atom<'b>(room: Room<'b>, at: &mut Reader<'_>, node: Node) -> Result<SAtom<'b>, Stop>
     requires { node.nesting ≤ 1001 }
     ensures { GivesPart atom_of result (state_of at.new)
         (read limited (atom node.later node.numbered node.nesting) (state_of at.old)) }
@@ -30,14 +30,14 @@ fn atom(alloc: Global, at: &mut Reader<'_>, node: Node) -> Result<SAtom, Stop>
         Seen::Reserved(Reserved::End) => {
             fits(node.nesting, MESSAGE_LIMIT, at)?;
             at.advance();
-            let label = message_of(alloc, at, inner)?;
+            let label = message_of(room, at, inner)?;
             let span = span_from(first.span, at);
             Ok(SAtom::End { label, span })
         }
         Seen::Reserved(Reserved::Check) => {
             fits(node.nesting, MESSAGE_LIMIT, at)?;
             at.advance();
-            let nonce = message_of(alloc, at, inner)?;
+            let nonce = message_of(room, at, inner)?;
             let span = span_from(first.span, at);
             Ok(SAtom::Check { nonce, span })
         }
@@ -45,7 +45,7 @@ fn atom(alloc: Global, at: &mut Reader<'_>, node: Node) -> Result<SAtom, Stop>
             accept(node.later, at)?;
             fits(node.nesting, MESSAGE_LIMIT, at)?;
             at.advance();
-            let label = any_message(alloc, at, inner)?;
+            let label = any_message(room, at, inner)?;
             let span = span_from(first.span, at);
             Ok(SAtom::Many { label, span })
         }
@@ -53,7 +53,7 @@ fn atom(alloc: Global, at: &mut Reader<'_>, node: Node) -> Result<SAtom, Stop>
     }
 }
 
-fn next_atom(alloc: Global, at: &mut Reader<'_>, node: Node) -> Result<Option<SAtom>, Stop>
+fn next_atom<'b>(room: Room<'b>, at: &mut Reader<'_>, node: Node) -> Result<Option<SAtom<'b>>, Stop>
     requires { node.nesting ≤ 1001 }
     ensures { GivesPart (item_of atom_of tt) result (state_of at.new)
         (read limited (atoms_item node.later node.numbered node.nesting) (state_of at.old)) }
@@ -62,7 +62,7 @@ fn next_atom(alloc: Global, at: &mut Reader<'_>, node: Node) -> Result<Option<SA
     match first.kind {
         Seen::Mark(Mark::Comma) => {
             at.advance();
-            let part = atom(alloc, at, node)?;
+            let part = atom(room, at, node)?;
             Ok(Some(part))
         }
         Seen::Mark(Mark::BracketClose) => {
@@ -73,14 +73,14 @@ fn next_atom(alloc: Global, at: &mut Reader<'_>, node: Node) -> Result<Option<SA
     }
 }
 
-fn more_atoms(alloc: Global, at: &mut Reader<'_>, node: Node) -> Result<Vec<SAtom>, Stop>
+fn more_atoms<'b>(room: Room<'b>, at: &mut Reader<'_>, node: Node) -> Result<Vec<SAtom<'b>>, Stop>
     requires { node.nesting ≤ 1001 }
     ensures { GivesPart (λ v. (map atom_of v.items, tt)) result (state_of at.new)
         (read limited (atoms node.later node.numbered node.nesting) (state_of at.old)) }
 {
-    let mut more = Vec::new(alloc);
+    let mut more = Vec::new(room.alloc);
     'items: loop {
-        let item = next_atom(alloc, at, node)?;
+        let item = next_atom(room, at, node)?;
         match item {
             Some(part) => more.push(part)?,
             None => return Ok(more),
@@ -89,7 +89,7 @@ fn more_atoms(alloc: Global, at: &mut Reader<'_>, node: Node) -> Result<Vec<SAto
 }
 
 /// An effect whose atoms have this nesting, or 0 where they have none.
-pub fn effect(alloc: Global, at: &mut Reader<'_>, node: Node) -> Result<Vec<SAtom>, Stop>
+pub fn effect<'b>(room: Room<'b>, at: &mut Reader<'_>, node: Node) -> Result<Vec<SAtom<'b>>, Stop>
     requires { node.nesting ≤ 1001 }
     ensures { GivesPart (λ v. map atom_of v.items) result (state_of at.new)
         (read limited (effect node.later node.numbered node.nesting) (state_of at.old)) }
@@ -98,18 +98,18 @@ pub fn effect(alloc: Global, at: &mut Reader<'_>, node: Node) -> Result<Vec<SAto
     match first.kind {
         Seen::Mark(Mark::BracketOpen) => {
             at.advance();
-            effect_in_brackets(alloc, first.span, at, node)
+            effect_in_brackets(room, first.span, at, node)
         }
         _ => Err(syntax(at)),
     }
 }
 
-fn effect_in_brackets(
-    alloc: Global,
+fn effect_in_brackets<'b>(
+    room: Room<'b>,
     _first: Span,
     at: &mut Reader<'_>,
     node: Node,
-) -> Result<Vec<SAtom>, Stop>
+) -> Result<Vec<SAtom<'b>>, Stop>
     requires { node.nesting ≤ 1001 }
     ensures { GivesPart (λ v. map atom_of v.items) result (state_of at.new)
         (behind_move limited (read limited)
@@ -120,26 +120,30 @@ fn effect_in_brackets(
     match second.kind {
         Seen::Mark(Mark::BracketClose) => {
             at.advance();
-            Ok(Vec::new(alloc))
+            Ok(Vec::new(room.alloc))
         }
-        _ => some_atoms(alloc, at, node),
+        _ => some_atoms(room, at, node),
     }
 }
 
-fn some_atoms(alloc: Global, at: &mut Reader<'_>, node: Node) -> Result<Vec<SAtom>, Stop>
+fn some_atoms<'b>(room: Room<'b>, at: &mut Reader<'_>, node: Node) -> Result<Vec<SAtom<'b>>, Stop>
     requires { node.nesting ≤ 1001 }
     ensures { GivesPart (λ v. map atom_of v.items) result (state_of at.new)
         (effect_form node.later node.numbered node.nesting [] (state_of at.old)) }
 {
-    let first = atom(alloc, at, node)?;
-    let more = more_atoms(alloc, at, node)?;
-    let atoms = put_first(alloc, first, more)?;
+    let first = atom(room, at, node)?;
+    let more = more_atoms(room, at, node)?;
+    let atoms = put_first(room, first, more)?;
     Ok(atoms)
 }
 
 /// The atoms with one before them.
-fn put_first(alloc: Global, first: SAtom, more: Vec<SAtom>) -> Result<Vec<SAtom>, NoMemory>
-    ensures { IfOk result (λ v. v.items ≡ first ∷ more.items) }
+fn put_first<'b>(
+    room: Room<'b>,
+    first: SAtom<'b>,
+    more: Vec<SAtom<'b>>,
+) -> Result<Vec<SAtom<'b>>, NoMemory>
+    ensures { IfOk result (λ v. v.items ≡ first.entry ∷ more.entry.items) }
 {
     let mut more = more;
     more.insert(0, first)?;

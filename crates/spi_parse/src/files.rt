@@ -17,21 +17,22 @@ use crate::schedules::all_steps;
 use crate::seen::Seen;
 use spi_lex::{Mark, Reserved};
 use spi_text::Span;
-use spi_tree::{Decl, SDeriv, SProc, SStep, Tree};
+use spi_tree::{Decl, Room, SDeriv, SProc, SStep, Tree};
 use std::alloc::Global;
 
 /// The parts of a file behind its version.
 #[derive(Drop)]
-pub struct FileParts {
-    pub decls: Vec<Decl>,
-    pub process: SProc,
-    pub opponent: Option<SProc>,
+pub struct FileParts<'b> {
+    pub decls: Vec<Decl<'b>>,
+    pub process: SProc<'b>,
+    pub opponent: Option<SProc<'b>>,
     pub schedule: Option<Vec<SStep>>,
-    pub derivation: Option<SDeriv>,
+    pub derivation: Option<SDeriv<'b>>,
 }
 
-fn opponent(alloc: Global, at: &mut Reader<'_>, later: bool) -> Result<Option<SProc>, Stop>
-    ensures { GivesPart opponent_of result (state_of at.new) (read limited (opponent_tail later) (state_of at.old)) }
+fn opponent<'b>(room: Room<'b>, at: &mut Reader<'_>, later: bool) -> Result<Option<SProc<'b>>, Stop>
+    ensures { GivesPart opponent_of result (state_of at.new)
+        (read limited (opponent_tail later) (state_of at.old)) }
 {
     let Ok(first) = at.first() else {
         return Ok(None);
@@ -39,7 +40,7 @@ fn opponent(alloc: Global, at: &mut Reader<'_>, later: bool) -> Result<Option<SP
     match first.kind {
         Seen::Reserved(Reserved::Opponent) => {
             at.advance();
-            let part = process(alloc, at, later, 0)?;
+            let part = process(room, at, later, 0)?;
             Ok(Some(part))
         }
         _ => Ok(None),
@@ -62,8 +63,13 @@ fn schedule(alloc: Global, at: &mut Reader<'_>) -> Result<Option<Vec<SStep>>, St
     }
 }
 
-fn derivation_part(alloc: Global, at: &mut Reader<'_>, later: bool) -> Result<Option<SDeriv>, Stop>
-    ensures { GivesPart derivation_of result (state_of at.new) (read limited (derivation_tail later) (state_of at.old)) }
+fn derivation_part<'b>(
+    room: Room<'b>,
+    at: &mut Reader<'_>,
+    later: bool,
+) -> Result<Option<SDeriv<'b>>, Stop>
+    ensures { GivesPart derivation_of result (state_of at.new)
+        (read limited (derivation_tail later) (state_of at.old)) }
 {
     let Ok(first) = at.first() else {
         return Ok(None);
@@ -71,22 +77,22 @@ fn derivation_part(alloc: Global, at: &mut Reader<'_>, later: bool) -> Result<Op
     match first.kind {
         Seen::Reserved(Reserved::Derivation) => {
             at.advance();
-            let part = derivation(alloc, at, later, 1)?;
+            let part = derivation(room, at, later, 1)?;
             Ok(Some(part))
         }
         _ => Ok(None),
     }
 }
 
-fn file_parts(alloc: Global, at: &mut Reader<'_>, later: bool) -> Result<FileParts, Stop>
+fn file_parts<'b>(room: Room<'b>, at: &mut Reader<'_>, later: bool) -> Result<FileParts<'b>, Stop>
     ensures { GivesPart body_of result (state_of at.new) (read limited (body later) (state_of at.old)) }
 {
     at.first()?;
-    let decls = all_declarations(alloc, at, later)?;
-    let process = process(alloc, at, later, 0)?;
-    let opponent = opponent(alloc, at, later)?;
-    let schedule = schedule(alloc, at)?;
-    let derivation = derivation_part(alloc, at, later)?;
+    let decls = all_declarations(room, at, later)?;
+    let process = process(room, at, later, 0)?;
+    let opponent = opponent(room, at, later)?;
+    let schedule = schedule(room.alloc, at)?;
+    let derivation = derivation_part(room, at, later)?;
     let parts = FileParts {
         decls,
         process,
@@ -97,8 +103,8 @@ fn file_parts(alloc: Global, at: &mut Reader<'_>, later: bool) -> Result<FilePar
     Ok(parts)
 }
 
-fn make_tree(version: u32, parts: FileParts, span: Span) -> Tree
-    ensures { file_of result ≡ file_from version span (body_of parts) }
+fn make_tree<'b>(version: u32, parts: FileParts<'b>, span: Span) -> Tree<'b>
+    ensures { file_of result ≡ file_from version span (body_of parts.entry) }
 {
     Tree {
         version,
@@ -112,7 +118,7 @@ fn make_tree(version: u32, parts: FileParts, span: Span) -> Tree
 }
 
 /// A file.
-pub fn read_file(alloc: Global, at: &mut Reader<'_>) -> Result<Tree, Stop>
+pub fn read_file<'b>(room: Room<'b>, at: &mut Reader<'_>) -> Result<Tree<'b>, Stop>
     ensures { GivesPart file_of result (state_of at.new) (read limited file (state_of at.old)) }
 {
     let first = at.first()?;
@@ -120,28 +126,28 @@ pub fn read_file(alloc: Global, at: &mut Reader<'_>) -> Result<Tree, Stop>
         Seen::Word(word) => {
             if word == "version" {
                 at.advance();
-                return later_file(alloc, first.span, at);
+                return later_file(room, first.span, at);
             }
             Err(syntax(at))
         }
-        _ => first_file(alloc, first.span, at),
+        _ => first_file(room, first.span, at),
     }
 }
 
-fn later_file(alloc: Global, first: Span, at: &mut Reader<'_>) -> Result<Tree, Stop>
+fn later_file<'b>(room: Room<'b>, first: Span, at: &mut Reader<'_>) -> Result<Tree<'b>, Stop>
     ensures { GivesPart file_of result (state_of at.new) (later_form (first ∷ []) (state_of at.old)) }
 {
     take_two(at)?;
     take_mark(at, Mark::Semicolon)?;
-    let parts = file_parts(alloc, at, true)?;
+    let parts = file_parts(room, at, true)?;
     let span = span_from(first, at);
     Ok(make_tree(2, parts, span))
 }
 
-fn first_file(alloc: Global, first: Span, at: &mut Reader<'_>) -> Result<Tree, Stop>
+fn first_file<'b>(room: Room<'b>, first: Span, at: &mut Reader<'_>) -> Result<Tree<'b>, Stop>
     ensures { GivesPart file_of result (state_of at.new) (first_form (first ∷ []) (state_of at.old)) }
 {
-    let parts = file_parts(alloc, at, false)?;
+    let parts = file_parts(room, at, false)?;
     let span = span_from(first, at);
     Ok(make_tree(1, parts, span))
 }

@@ -14,21 +14,20 @@ use crate::reading::{take_mark, take_reserved, take_word};
 use crate::seen::Seen;
 use crate::types::read_type;
 use spi_lex::{Mark, Reserved};
-use spi_tree::{SMsg, STy, SWord};
-use std::alloc::Global;
+use spi_tree::{Room, SMsg, STy, SWord};
 
 /// A name with its type, and the place behind them.
-type TypedName = Result<(SWord, STy), Stop>;
+type TypedName<'b> = Result<(SWord, STy<'b>), Stop>;
 
 /// A name with its type.
 #[inline(always)]
-fn named(alloc: Global, at: &mut Reader<'_>, later: bool) -> TypedName
+fn named<'b>(room: Room<'b>, at: &mut Reader<'_>, later: bool) -> TypedName<'b>
     ensures { GivesName result (state_of at.new) (read limited (named later) (state_of at.old)) }
 {
     at.first()?;
-    let name = take_word(alloc, at)?;
+    let name = take_word(room.alloc, at)?;
     take_mark(at, Mark::Colon)?;
-    let ty = read_type(alloc, at, later, 1)?;
+    let ty = read_type(room, at, later, 1)?;
     Ok((name, ty))
 }
 
@@ -45,14 +44,14 @@ fn take_closing(at: &mut Reader<'_>) -> Result<(), Stop>
 
 /// A name with its type in parentheses, and the semicolon.
 #[inline(always)]
-pub fn binder(alloc: Global, at: &mut Reader<'_>, later: bool) -> TypedName
+pub fn binder<'b>(room: Room<'b>, at: &mut Reader<'_>, later: bool) -> TypedName<'b>
     ensures { GivesName result (state_of at.new) (read limited (binder later) (state_of at.old)) }
 {
     let first = at.first()?;
     match first.kind {
         Seen::Mark(Mark::ParenOpen) => {
             at.advance();
-            let (name, ty) = named(alloc, at, later)?;
+            let (name, ty) = named(room, at, later)?;
             take_closing(at)?;
             Ok((name, ty))
         }
@@ -61,23 +60,23 @@ pub fn binder(alloc: Global, at: &mut Reader<'_>, later: bool) -> TypedName
 }
 
 /// The second name of a split or a match with its type, from the comma on, and what closes the head.
-fn second_named(alloc: Global, at: &mut Reader<'_>, later: bool) -> TypedName
+fn second_named<'b>(room: Room<'b>, at: &mut Reader<'_>, later: bool) -> TypedName<'b>
     ensures { GivesPart (λ x. (tt, ((x.0, ty_of x.1), (tt, (tt, tt))))) result (state_of at.new)
         (read_all (read limited)
         (the_mark Comma ∷ named later ∷ the_mark ParenClose ∷ the_mark Semicolon ∷ []) (state_of at.old)) }
 {
     take_mark(at, Mark::Comma)?;
-    let (name, ty) = named(alloc, at, later)?;
+    let (name, ty) = named(room, at, later)?;
     take_closing(at)?;
     Ok((name, ty))
 }
 
 /// The names of a split, from `is` on.
-pub fn split_head(
-    alloc: Global,
+pub fn split_head<'b>(
+    room: Room<'b>,
     at: &mut Reader<'_>,
     later: bool,
-) -> Result<(SWord, STy, SWord, STy), Stop>
+) -> Result<(SWord, STy<'b>, SWord, STy<'b>), Stop>
     ensures { GivesPart (λ x. (x.0, ty_of x.1, x.2, ty_of x.3)) result (state_of at.new)
         (read limited (split_head later) (state_of at.old)) }
 {
@@ -86,8 +85,8 @@ pub fn split_head(
         Seen::Reserved(Reserved::Is) => {
             at.advance();
             take_mark(at, Mark::ParenOpen)?;
-            let (left, left_ty) = named(alloc, at, later)?;
-            let (right, right_ty) = second_named(alloc, at, later)?;
+            let (left, left_ty) = named(room, at, later)?;
+            let (right, right_ty) = second_named(room, at, later)?;
             Ok((left, left_ty, right, right_ty))
         }
         _ => Err(syntax(at)),
@@ -95,11 +94,11 @@ pub fn split_head(
 }
 
 /// The names of a match, from `is` on.
-pub fn match_head(
-    alloc: Global,
+pub fn match_head<'b>(
+    room: Room<'b>,
     at: &mut Reader<'_>,
     later: bool,
-) -> Result<(SWord, STy, SMsg, SWord, STy), Stop>
+) -> Result<(SWord, STy<'b>, SMsg<'b>, SWord, STy<'b>), Stop>
     ensures { GivesPart (λ x. (x.0, ty_of x.1, msg_of x.2, x.3, ty_of x.4)) result (state_of at.new)
         (read limited (match_head later) (state_of at.old)) }
 {
@@ -108,10 +107,10 @@ pub fn match_head(
         Seen::Reserved(Reserved::Is) => {
             at.advance();
             take_mark(at, Mark::ParenOpen)?;
-            let (left, left_ty) = named(alloc, at, later)?;
+            let (left, left_ty) = named(room, at, later)?;
             take_mark(at, Mark::Equals)?;
-            let equal = message(alloc, at, later)?;
-            let (right, right_ty) = second_named(alloc, at, later)?;
+            let equal = message(room, at, later)?;
+            let (right, right_ty) = second_named(room, at, later)?;
             Ok((left, left_ty, equal, right, right_ty))
         }
         _ => Err(syntax(at)),
@@ -119,7 +118,12 @@ pub fn match_head(
 }
 
 /// The name of a side of a case, from `is` on.
-pub fn case_head(alloc: Global, at: &mut Reader<'_>, later: bool, side: Reserved) -> TypedName
+pub fn case_head<'b>(
+    room: Room<'b>,
+    at: &mut Reader<'_>,
+    later: bool,
+    side: Reserved,
+) -> TypedName<'b>
     ensures { GivesName result (state_of at.new) (read limited (case_head later side) (state_of at.old)) }
 {
     let first = at.first()?;
@@ -127,18 +131,18 @@ pub fn case_head(alloc: Global, at: &mut Reader<'_>, later: bool, side: Reserved
         Seen::Reserved(Reserved::Is) => {
             at.advance();
             take_reserved(at, side)?;
-            binder(alloc, at, later)
+            binder(room, at, later)
         }
         _ => Err(syntax(at)),
     }
 }
 
 /// The name and the key of a decryption, from `is` on.
-pub fn decrypt_head(
-    alloc: Global,
+pub fn decrypt_head<'b>(
+    room: Room<'b>,
     at: &mut Reader<'_>,
     later: bool,
-) -> Result<(SWord, STy, SMsg), Stop>
+) -> Result<(SWord, STy<'b>, SMsg<'b>), Stop>
     ensures { GivesPart (λ x. (x.0, ty_of x.1, msg_of x.2)) result (state_of at.new)
         (read limited (decrypt_head later) (state_of at.old)) }
 {
@@ -147,9 +151,9 @@ pub fn decrypt_head(
         Seen::Reserved(Reserved::Is) => {
             at.advance();
             take_mark(at, Mark::BraceOpen)?;
-            let (name, ty) = named(alloc, at, later)?;
+            let (name, ty) = named(room, at, later)?;
             take_mark(at, Mark::BraceClose)?;
-            let key = message(alloc, at, later)?;
+            let key = message(room, at, later)?;
             take_mark(at, Mark::Semicolon)?;
             Ok((name, ty, key))
         }
@@ -158,14 +162,14 @@ pub fn decrypt_head(
 }
 
 /// The nonce of a check, from `is` on.
-pub fn check_head(alloc: Global, at: &mut Reader<'_>, later: bool) -> Result<SMsg, Stop>
+pub fn check_head<'b>(room: Room<'b>, at: &mut Reader<'_>, later: bool) -> Result<SMsg<'b>, Stop>
     ensures { GivesPart msg_of result (state_of at.new) (read limited (check_head later) (state_of at.old)) }
 {
     let first = at.first()?;
     match first.kind {
         Seen::Reserved(Reserved::Is) => {
             at.advance();
-            let nonce = message(alloc, at, later)?;
+            let nonce = message(room, at, later)?;
             take_mark(at, Mark::Semicolon)?;
             Ok(nonce)
         }
@@ -174,14 +178,14 @@ pub fn check_head(alloc: Global, at: &mut Reader<'_>, later: bool) -> Result<SMs
 }
 
 /// The name of a cast, from `is` on.
-pub fn cast_head(alloc: Global, at: &mut Reader<'_>, later: bool) -> TypedName
+pub fn cast_head<'b>(room: Room<'b>, at: &mut Reader<'_>, later: bool) -> TypedName<'b>
     ensures { GivesName result (state_of at.new) (read limited (cast_head later) (state_of at.old)) }
 {
     let first = at.first()?;
     match first.kind {
         Seen::Reserved(Reserved::Is) => {
             at.advance();
-            binder(alloc, at, later)
+            binder(room, at, later)
         }
         _ => Err(syntax(at)),
     }

@@ -19,8 +19,7 @@ use crate::messages::message;
 use crate::processes::process;
 use crate::types::read_type;
 use spi_lex::Token;
-use spi_tree::{Decl, SMsg, SProc, STy};
-use std::alloc::Global;
+use spi_tree::{Decl, Room, SMsg, SProc, STy};
 
 /// The fault by the number of its token, among so many.
 pub fn fault_of(count: usize, stop: Stop) -> ParseFault
@@ -60,12 +59,12 @@ fn by_number<X>(
 /// Where they begin with none that is within the nesting limits, the fault counts its token in the whole list. `Syntax` is at
 /// the token with which no declaration goes on, and at the end it is the number of tokens. `TooDeep` is at the first token at
 /// which a node of some declaration starts that is above its nesting limit. `NoMemory` comes where memory runs out.
-pub fn decl_at(
-    alloc: Global,
+pub fn decl_at<'b>(
+    room: Room<'b>,
     tokens: &[Token],
     from: u32,
     version: u32,
-) -> Result<(Decl, u32), ParseFault>
+) -> Result<(Decl<'b>, u32), ParseFault>
     requires size { length tokens.now ≤ 16_777_216 }
     requires start { from ≤ length tokens.now }
     requires known { (version ≡ 1) ⊎ (version ≡ 2) }
@@ -73,7 +72,7 @@ pub fn decl_at(
     ensures { Reads decl_of whole_decl (IsWholeDecl (version == 2)) result tokens.now from }
 {
     let mut at = Reader::of(&tokens[from as usize..]);
-    let answer = declaration(alloc, &mut at, version == 2);
+    let answer = declaration(room, &mut at, version == 2);
     by_number(tokens, answer, at.left())
 }
 
@@ -83,12 +82,12 @@ pub fn decl_at(
 /// Where they begin with none that is within the nesting limits, the fault counts its token in the whole list. `Syntax` is at
 /// the token with which no type goes on, and at the end it is the number of tokens. `TooDeep` is at the first token at
 /// which a node of some type starts that is above its nesting limit. `NoMemory` comes where memory runs out.
-pub fn type_at(
-    alloc: Global,
+pub fn type_at<'b>(
+    room: Room<'b>,
     tokens: &[Token],
     from: u32,
     version: u32,
-) -> Result<(STy, u32), ParseFault>
+) -> Result<(STy<'b>, u32), ParseFault>
     requires size { length tokens.now ≤ 16_777_216 }
     requires start { from ≤ length tokens.now }
     requires known { (version ≡ 1) ⊎ (version ≡ 2) }
@@ -96,7 +95,7 @@ pub fn type_at(
     ensures { Reads ty_of whole_type (IsWholeType (version == 2)) result tokens.now from }
 {
     let mut at = Reader::of(&tokens[from as usize..]);
-    let answer = read_type(alloc, &mut at, version == 2, 1);
+    let answer = read_type(room, &mut at, version == 2, 1);
     by_number(tokens, answer, at.left())
 }
 
@@ -106,12 +105,12 @@ pub fn type_at(
 /// Where they begin with none that is within the nesting limits, the fault counts its token in the whole list. `Syntax` is at
 /// the token with which no message goes on, and at the end it is the number of tokens. `TooDeep` is at the first token at
 /// which a node of some message starts that is above its nesting limit. `NoMemory` comes where memory runs out.
-pub fn message_at(
-    alloc: Global,
+pub fn message_at<'b>(
+    room: Room<'b>,
     tokens: &[Token],
     from: u32,
     version: u32,
-) -> Result<(SMsg, u32), ParseFault>
+) -> Result<(SMsg<'b>, u32), ParseFault>
     requires size { length tokens.now ≤ 16_777_216 }
     requires start { from ≤ length tokens.now }
     requires known { (version ≡ 1) ⊎ (version ≡ 2) }
@@ -119,7 +118,7 @@ pub fn message_at(
     ensures { Reads msg_of whole_message (IsWholeMessage (version == 2)) result tokens.now from }
 {
     let mut at = Reader::of(&tokens[from as usize..]);
-    let answer = message(alloc, &mut at, version == 2);
+    let answer = message(room, &mut at, version == 2);
     by_number(tokens, answer, at.left())
 }
 
@@ -129,12 +128,12 @@ pub fn message_at(
 /// Where they begin with none that is within the nesting limits, the fault counts its token in the whole list. `Syntax` is at
 /// the token with which no process goes on, and at the end it is the number of tokens. `TooDeep` is at the first token at
 /// which a node of some process starts that is above its nesting limit. `NoMemory` comes where memory runs out.
-pub fn process_at(
-    alloc: Global,
+pub fn process_at<'b>(
+    room: Room<'b>,
     tokens: &[Token],
     from: u32,
     version: u32,
-) -> Result<(SProc, u32), ParseFault>
+) -> Result<(SProc<'b>, u32), ParseFault>
     requires size { length tokens.now ≤ 16_777_216 }
     requires start { from ≤ length tokens.now }
     requires known { (version ≡ 1) ⊎ (version ≡ 2) }
@@ -142,7 +141,7 @@ pub fn process_at(
     ensures { Reads proc_of whole_process (IsWholeProcess (version == 2)) result tokens.now from }
 {
     let mut at = Reader::of(&tokens[from as usize..]);
-    let answer = process(alloc, &mut at, version == 2, 0);
+    let answer = process(room, &mut at, version == 2, 0);
     by_number(tokens, answer, at.left())
 }
 

@@ -24,63 +24,73 @@ use spi_lex::{Mark, Reserved};
 use spi_text::Span;
 use spi_tree::{
     BothParts, CaseParts, CastParts, CheckParts, DecryptParts, EventParts, InpParts, MatchParts,
-    NewParts, OutParts, OutThenParts, SMsg, SProc, STy, SWord, SplitParts,
+    NewParts, OutParts, OutThenParts, Room, SMsg, SProc, STy, SWord, SplitParts,
 };
-use std::alloc::Global;
 
 /// A process, with the place behind it.
-type Part = Result<SProc, Stop>;
+type Part<'b> = Result<SProc<'b>, Stop>;
 
 /// A process of a level.
-pub fn process(alloc: Global, at: &mut Reader<'_>, later: bool, level: u32) -> Result<SProc, Stop>
+pub fn process<'b>(
+    room: Room<'b>,
+    at: &mut Reader<'_>,
+    later: bool,
+    level: u32,
+) -> Result<SProc<'b>, Stop>
     requires { level ≤ 500 }
     ensures { GivesPart proc_of result (state_of at.new)
         (read limited (sproc later level) (state_of at.old)) }
 {
-    parallel(alloc, at, later, level)
+    parallel(room, at, later, level)
 }
 
 #[cycle(processes)]
-fn parallel(alloc: Global, at: &mut Reader<'_>, later: bool, level: u32) -> Part
+fn parallel<'b>(room: Room<'b>, at: &mut Reader<'_>, later: bool, level: u32) -> Part<'b>
     requires { level ≤ 500 }
     ensures { GivesPart proc_of result (state_of at.new)
         (read limited (sproc later level) (state_of at.old)) }
 {
     let token = at.first()?;
-    let first = sequence(alloc, at, later, level + 1)?;
-    let rest = par_rest(alloc, at, later, level)?;
+    let first = sequence(room, at, later, level + 1)?;
+    let rest = par_rest(room, at, later, level)?;
     match rest {
         None => Ok(first),
         Some(rest) => {
             let span = span_from(token.span, at);
-            let parts = Box::new(alloc, BothParts { first, rest })?;
+            let parts = Box::new(room.alloc, BothParts { first, rest })?;
             Ok(SProc::Par { parts, span })
         }
     }
 }
 
 #[cycle(processes)]
-fn sequence(alloc: Global, at: &mut Reader<'_>, later: bool, nesting: u32) -> Part
+fn sequence<'b>(room: Room<'b>, at: &mut Reader<'_>, later: bool, nesting: u32) -> Part<'b>
     requires { nesting ≤ 501 }
     ensures { GivesPart proc_of result (state_of at.new)
         (read limited (seq later nesting) (state_of at.old)) }
 {
     let first = at.first()?;
     let form = form_of(later, &first.kind);
-    read_form(alloc, form, at, later, nesting)
+    read_form(room, form, at, later, nesting)
 }
 
 #[cycle(processes)]
 #[inline(always)]
-fn read_form(alloc: Global, form: Form, at: &mut Reader<'_>, later: bool, nesting: u32) -> Part
+fn read_form<'b>(
+    room: Room<'b>,
+    form: Form,
+    at: &mut Reader<'_>,
+    later: bool,
+    nesting: u32,
+) -> Part<'b>
     requires { nesting ≤ 501 }
     ensures { GivesPart proc_of result (state_of at.new) (by_form later nesting form (state_of at.old)) }
 {
     match form {
-        Form::Talk(form) => read_talk(alloc, form, at, later, nesting),
-        Form::Open(form) => read_open(alloc, form, at, later, nesting),
-        Form::Event(form) => read_event(alloc, form, at, later, nesting),
-        Form::Plain(form) => read_plain(alloc, form, at, later, nesting),
+        Form::Talk(form) => read_talk(room, form, at, later, nesting),
+        Form::Open(form) => read_open(room, form, at, later, nesting),
+        Form::Event(form) => read_event(room, form, at, later, nesting),
+        Form::Plain(form) => read_plain(room, form, at, later, nesting),
         Form::NoForm => {
             at.first()?;
             Err(syntax(at))
@@ -89,7 +99,13 @@ fn read_form(alloc: Global, form: Form, at: &mut Reader<'_>, later: bool, nestin
 }
 
 #[cycle(processes)]
-fn read_talk(alloc: Global, form: Talk, at: &mut Reader<'_>, later: bool, nesting: u32) -> Part
+fn read_talk<'b>(
+    room: Room<'b>,
+    form: Talk,
+    at: &mut Reader<'_>,
+    later: bool,
+    nesting: u32,
+) -> Part<'b>
     requires { nesting ≤ 501 }
     ensures { GivesPart proc_of result (state_of at.new)
         (by_form later nesting (forms.Talk form) (state_of at.old)) }
@@ -99,21 +115,27 @@ fn read_talk(alloc: Global, form: Talk, at: &mut Reader<'_>, later: bool, nestin
     match form {
         Talk::Out => {
             at.advance();
-            read_out(alloc, first.span, at, later, nesting)
+            read_out(room, first.span, at, later, nesting)
         }
         Talk::Inp => {
             at.advance();
-            read_inp(alloc, first.span, at, later, nesting)
+            read_inp(room, first.span, at, later, nesting)
         }
         Talk::Repeat => {
             at.advance();
-            read_repeat(alloc, first.span, at, later, nesting)
+            read_repeat(room, first.span, at, later, nesting)
         }
     }
 }
 
 #[cycle(processes)]
-fn read_open(alloc: Global, form: Open, at: &mut Reader<'_>, later: bool, nesting: u32) -> Part
+fn read_open<'b>(
+    room: Room<'b>,
+    form: Open,
+    at: &mut Reader<'_>,
+    later: bool,
+    nesting: u32,
+) -> Part<'b>
     requires { nesting ≤ 501 }
     ensures { GivesPart proc_of result (state_of at.new)
         (by_form later nesting (forms.Open form) (state_of at.old)) }
@@ -123,25 +145,31 @@ fn read_open(alloc: Global, form: Open, at: &mut Reader<'_>, later: bool, nestin
     match form {
         Open::Split => {
             at.advance();
-            read_split(alloc, first.span, at, later, nesting)
+            read_split(room, first.span, at, later, nesting)
         }
         Open::Match => {
             at.advance();
-            read_match(alloc, first.span, at, later, nesting)
+            read_match(room, first.span, at, later, nesting)
         }
         Open::Case => {
             at.advance();
-            read_case(alloc, first.span, at, later, nesting)
+            read_case(room, first.span, at, later, nesting)
         }
         Open::Decrypt => {
             at.advance();
-            read_decrypt(alloc, first.span, at, later, nesting)
+            read_decrypt(room, first.span, at, later, nesting)
         }
     }
 }
 
 #[cycle(processes)]
-fn read_event(alloc: Global, form: Event, at: &mut Reader<'_>, later: bool, nesting: u32) -> Part
+fn read_event<'b>(
+    room: Room<'b>,
+    form: Event,
+    at: &mut Reader<'_>,
+    later: bool,
+    nesting: u32,
+) -> Part<'b>
     requires { nesting ≤ 501 }
     ensures { GivesPart proc_of result (state_of at.new)
         (by_form later nesting (forms.Event form) (state_of at.old)) }
@@ -151,25 +179,31 @@ fn read_event(alloc: Global, form: Event, at: &mut Reader<'_>, later: bool, nest
     match form {
         Event::Check => {
             at.advance();
-            read_check(alloc, first.span, at, later, nesting)
+            read_check(room, first.span, at, later, nesting)
         }
         Event::Begin => {
             at.advance();
-            read_begin(alloc, first.span, at, later, nesting)
+            read_begin(room, first.span, at, later, nesting)
         }
         Event::End => {
             at.advance();
-            read_end(alloc, first.span, at, later, nesting)
+            read_end(room, first.span, at, later, nesting)
         }
         Event::EndMany => {
             at.advance();
-            read_end_many(alloc, first.span, at, later, nesting)
+            read_end_many(room, first.span, at, later, nesting)
         }
     }
 }
 
 #[cycle(processes)]
-fn read_plain(alloc: Global, form: Plain, at: &mut Reader<'_>, later: bool, nesting: u32) -> Part
+fn read_plain<'b>(
+    room: Room<'b>,
+    form: Plain,
+    at: &mut Reader<'_>,
+    later: bool,
+    nesting: u32,
+) -> Part<'b>
     requires { nesting ≤ 501 }
     ensures { GivesPart proc_of result (state_of at.new)
         (by_form later nesting (forms.Plain form) (state_of at.old)) }
@@ -179,58 +213,64 @@ fn read_plain(alloc: Global, form: Plain, at: &mut Reader<'_>, later: bool, nest
     match form {
         Plain::Cast => {
             at.advance();
-            read_cast(alloc, first.span, at, later, nesting)
+            read_cast(room, first.span, at, later, nesting)
         }
         Plain::New => {
             at.advance();
-            read_new(alloc, first.span, at, later, nesting)
+            read_new(room, first.span, at, later, nesting)
         }
         Plain::Stop => {
             at.advance();
-            read_stop(alloc, first.span, at)
+            read_stop(room, first.span, at)
         }
         Plain::Group => {
             at.advance();
-            read_group(alloc, first.span, at, later, nesting)
+            read_group(room, first.span, at, later, nesting)
         }
     }
 }
 
 #[cycle(processes)]
-fn read_out(alloc: Global, first: Span, at: &mut Reader<'_>, later: bool, nesting: u32) -> Part
+fn read_out<'b>(
+    room: Room<'b>,
+    first: Span,
+    at: &mut Reader<'_>,
+    later: bool,
+    nesting: u32,
+) -> Part<'b>
     requires { nesting ≤ 500 }
     ensures { GivesPart proc_of result (state_of at.new)
         (out_form later nesting (first ∷ []) (state_of at.old)) }
 {
-    let channel = message(alloc, at, later)?;
-    let datum = message(alloc, at, later)?;
-    let then = out_rest(alloc, at, later, nesting)?;
-    end_out(alloc, first, channel, datum, then, at)
+    let channel = message(room, at, later)?;
+    let datum = message(room, at, later)?;
+    let then = out_rest(room, at, later, nesting)?;
+    end_out(room, first, channel, datum, then, at)
 }
 
 /// The sending of these parts, which ends before this place.
-fn end_out(
-    alloc: Global,
+fn end_out<'b>(
+    room: Room<'b>,
     first: Span,
-    channel: SMsg,
-    datum: SMsg,
-    then: Option<SProc>,
+    channel: SMsg<'b>,
+    datum: SMsg<'b>,
+    then: Option<SProc<'b>>,
     at: &mut Reader<'_>,
-) -> Part
+) -> Part<'b>
     ensures { GivesPart proc_of result (state_of at.new)
-        (done (out_of (over (first ∷ []) (state_of at.old).end) (msg_of channel) (msg_of datum)
-        (proc_option then))
+        (done (out_of (over (first ∷ []) (state_of at.old).end) (msg_of channel.entry)
+        (msg_of datum.entry) (proc_option then.entry))
         (state_of at.old)) }
 {
     let span = span_from(first, at);
     match then {
         None => {
-            let parts = Box::new(alloc, OutParts { channel, datum })?;
+            let parts = Box::new(room.alloc, OutParts { channel, datum })?;
             Ok(SProc::Out { parts, span })
         }
         Some(then) => {
             let parts = Box::new(
-                alloc,
+                room.alloc,
                 OutThenParts {
                     channel,
                     datum,
@@ -245,33 +285,39 @@ fn end_out(
 /// The channel, the name and the process of a form that receives.
 #[cycle(processes)]
 #[inline(always)]
-fn read_receiving(
-    alloc: Global,
+fn read_receiving<'b>(
+    room: Room<'b>,
     at: &mut Reader<'_>,
     later: bool,
     nesting: u32,
-) -> Result<(SMsg, SWord, STy, SProc), Stop>
+) -> Result<(SMsg<'b>, SWord, STy<'b>, SProc<'b>), Stop>
     requires { nesting ≤ 500 }
     ensures { GivesPart (λ x. (msg_of x.0, ((x.1, ty_of x.2), (proc_of x.3, tt)))) result (state_of at.new)
         (read_all (read limited) (msg later false 1 ∷ binder later ∷ seq later (nesting + 1) ∷ [])
         (state_of at.old)) }
 {
-    let channel = message(alloc, at, later)?;
-    let (name, ty) = binder(alloc, at, later)?;
-    let then = sequence(alloc, at, later, nesting + 1)?;
+    let channel = message(room, at, later)?;
+    let (name, ty) = binder(room, at, later)?;
+    let then = sequence(room, at, later, nesting + 1)?;
     Ok((channel, name, ty, then))
 }
 
 #[cycle(processes)]
-fn read_inp(alloc: Global, first: Span, at: &mut Reader<'_>, later: bool, nesting: u32) -> Part
+fn read_inp<'b>(
+    room: Room<'b>,
+    first: Span,
+    at: &mut Reader<'_>,
+    later: bool,
+    nesting: u32,
+) -> Part<'b>
     requires { nesting ≤ 500 }
     ensures { GivesPart proc_of result (state_of at.new)
         (inp_form later nesting (first ∷ []) (state_of at.old)) }
 {
-    let (channel, name, ty, then) = read_receiving(alloc, at, later, nesting)?;
+    let (channel, name, ty, then) = read_receiving(room, at, later, nesting)?;
     let span = span_from(first, at);
     let parts = Box::new(
-        alloc,
+        room.alloc,
         InpParts {
             channel,
             name,
@@ -283,16 +329,22 @@ fn read_inp(alloc: Global, first: Span, at: &mut Reader<'_>, later: bool, nestin
 }
 
 #[cycle(processes)]
-fn read_repeat(alloc: Global, first: Span, at: &mut Reader<'_>, later: bool, nesting: u32) -> Part
+fn read_repeat<'b>(
+    room: Room<'b>,
+    first: Span,
+    at: &mut Reader<'_>,
+    later: bool,
+    nesting: u32,
+) -> Part<'b>
     requires { nesting ≤ 500 }
     ensures { GivesPart proc_of result (state_of at.new)
         (repeat_form later nesting (first ∷ []) (state_of at.old)) }
 {
     take_reserved(at, Reserved::Inp)?;
-    let (channel, name, ty, then) = read_receiving(alloc, at, later, nesting)?;
+    let (channel, name, ty, then) = read_receiving(room, at, later, nesting)?;
     let span = span_from(first, at);
     let parts = Box::new(
-        alloc,
+        room.alloc,
         InpParts {
             channel,
             name,
@@ -304,17 +356,23 @@ fn read_repeat(alloc: Global, first: Span, at: &mut Reader<'_>, later: bool, nes
 }
 
 #[cycle(processes)]
-fn read_split(alloc: Global, first: Span, at: &mut Reader<'_>, later: bool, nesting: u32) -> Part
+fn read_split<'b>(
+    room: Room<'b>,
+    first: Span,
+    at: &mut Reader<'_>,
+    later: bool,
+    nesting: u32,
+) -> Part<'b>
     requires { nesting ≤ 500 }
     ensures { GivesPart proc_of result (state_of at.new)
         (split_form later nesting (first ∷ []) (state_of at.old)) }
 {
-    let whole = message(alloc, at, later)?;
-    let (left, left_ty, right, right_ty) = split_head(alloc, at, later)?;
-    let then = sequence(alloc, at, later, nesting + 1)?;
+    let whole = message(room, at, later)?;
+    let (left, left_ty, right, right_ty) = split_head(room, at, later)?;
+    let then = sequence(room, at, later, nesting + 1)?;
     let span = span_from(first, at);
     let parts = Box::new(
-        alloc,
+        room.alloc,
         SplitParts {
             whole,
             left,
@@ -328,17 +386,23 @@ fn read_split(alloc: Global, first: Span, at: &mut Reader<'_>, later: bool, nest
 }
 
 #[cycle(processes)]
-fn read_match(alloc: Global, first: Span, at: &mut Reader<'_>, later: bool, nesting: u32) -> Part
+fn read_match<'b>(
+    room: Room<'b>,
+    first: Span,
+    at: &mut Reader<'_>,
+    later: bool,
+    nesting: u32,
+) -> Part<'b>
     requires { nesting ≤ 500 }
     ensures { GivesPart proc_of result (state_of at.new)
         (match_form later nesting (first ∷ []) (state_of at.old)) }
 {
-    let whole = message(alloc, at, later)?;
-    let (left, left_ty, equal, right, right_ty) = match_head(alloc, at, later)?;
-    let then = sequence(alloc, at, later, nesting + 1)?;
+    let whole = message(room, at, later)?;
+    let (left, left_ty, equal, right, right_ty) = match_head(room, at, later)?;
+    let then = sequence(room, at, later, nesting + 1)?;
     let span = span_from(first, at);
     let parts = Box::new(
-        alloc,
+        room.alloc,
         MatchParts {
             whole,
             left,
@@ -353,19 +417,25 @@ fn read_match(alloc: Global, first: Span, at: &mut Reader<'_>, later: bool, nest
 }
 
 #[cycle(processes)]
-fn read_case(alloc: Global, first: Span, at: &mut Reader<'_>, later: bool, nesting: u32) -> Part
+fn read_case<'b>(
+    room: Room<'b>,
+    first: Span,
+    at: &mut Reader<'_>,
+    later: bool,
+    nesting: u32,
+) -> Part<'b>
     requires { nesting ≤ 500 }
     ensures { GivesPart proc_of result (state_of at.new)
         (case_form later nesting (first ∷ []) (state_of at.old)) }
 {
-    let whole = message(alloc, at, later)?;
-    let (left, left_ty) = case_head(alloc, at, later, Reserved::Inl)?;
-    let on_left = sequence(alloc, at, later, nesting + 1)?;
-    let (right, right_ty) = case_head(alloc, at, later, Reserved::Inr)?;
-    let on_right = sequence(alloc, at, later, nesting + 1)?;
+    let whole = message(room, at, later)?;
+    let (left, left_ty) = case_head(room, at, later, Reserved::Inl)?;
+    let on_left = sequence(room, at, later, nesting + 1)?;
+    let (right, right_ty) = case_head(room, at, later, Reserved::Inr)?;
+    let on_right = sequence(room, at, later, nesting + 1)?;
     let span = span_from(first, at);
     let parts = Box::new(
-        alloc,
+        room.alloc,
         CaseParts {
             whole,
             left,
@@ -380,17 +450,23 @@ fn read_case(alloc: Global, first: Span, at: &mut Reader<'_>, later: bool, nesti
 }
 
 #[cycle(processes)]
-fn read_decrypt(alloc: Global, first: Span, at: &mut Reader<'_>, later: bool, nesting: u32) -> Part
+fn read_decrypt<'b>(
+    room: Room<'b>,
+    first: Span,
+    at: &mut Reader<'_>,
+    later: bool,
+    nesting: u32,
+) -> Part<'b>
     requires { nesting ≤ 500 }
     ensures { GivesPart proc_of result (state_of at.new)
         (decrypt_form later nesting (first ∷ []) (state_of at.old)) }
 {
-    let whole = message(alloc, at, later)?;
-    let (name, ty, key) = decrypt_head(alloc, at, later)?;
-    let then = sequence(alloc, at, later, nesting + 1)?;
+    let whole = message(room, at, later)?;
+    let (name, ty, key) = decrypt_head(room, at, later)?;
+    let then = sequence(room, at, later, nesting + 1)?;
     let span = span_from(first, at);
     let parts = Box::new(
-        alloc,
+        room.alloc,
         DecryptParts {
             whole,
             name,
@@ -403,87 +479,117 @@ fn read_decrypt(alloc: Global, first: Span, at: &mut Reader<'_>, later: bool, ne
 }
 
 #[cycle(processes)]
-fn read_check(alloc: Global, first: Span, at: &mut Reader<'_>, later: bool, nesting: u32) -> Part
+fn read_check<'b>(
+    room: Room<'b>,
+    first: Span,
+    at: &mut Reader<'_>,
+    later: bool,
+    nesting: u32,
+) -> Part<'b>
     requires { nesting ≤ 500 }
     ensures { GivesPart proc_of result (state_of at.new)
         (check_form later nesting (first ∷ []) (state_of at.old)) }
 {
-    let whole = message(alloc, at, later)?;
-    let nonce = check_head(alloc, at, later)?;
-    let then = sequence(alloc, at, later, nesting + 1)?;
+    let whole = message(room, at, later)?;
+    let nonce = check_head(room, at, later)?;
+    let then = sequence(room, at, later, nesting + 1)?;
     let span = span_from(first, at);
-    let parts = Box::new(alloc, CheckParts { whole, nonce, then })?;
+    let parts = Box::new(room.alloc, CheckParts { whole, nonce, then })?;
     Ok(SProc::Check { parts, span })
 }
 
 /// The label of an event, and the process behind it.
 #[cycle(processes)]
 #[inline(always)]
-fn read_label(
-    alloc: Global,
+fn read_label<'b>(
+    room: Room<'b>,
     at: &mut Reader<'_>,
     later: bool,
     nesting: u32,
-) -> Result<(SMsg, SProc), Stop>
+) -> Result<(SMsg<'b>, SProc<'b>), Stop>
     requires { nesting ≤ 500 }
     ensures { GivesPart (λ x. (msg_of x.0, (tt, (proc_of x.1, tt)))) result (state_of at.new)
         (read_all (read limited) (msg later false 1 ∷ the_mark Semicolon ∷ seq later (nesting + 1) ∷ [])
         (state_of at.old)) }
 {
-    let label = message(alloc, at, later)?;
+    let label = message(room, at, later)?;
     take_mark(at, Mark::Semicolon)?;
-    let then = sequence(alloc, at, later, nesting + 1)?;
+    let then = sequence(room, at, later, nesting + 1)?;
     Ok((label, then))
 }
 
 #[cycle(processes)]
-fn read_begin(alloc: Global, first: Span, at: &mut Reader<'_>, later: bool, nesting: u32) -> Part
+fn read_begin<'b>(
+    room: Room<'b>,
+    first: Span,
+    at: &mut Reader<'_>,
+    later: bool,
+    nesting: u32,
+) -> Part<'b>
     requires { nesting ≤ 500 }
     ensures { GivesPart proc_of result (state_of at.new)
         (begin_form later nesting (first ∷ []) (state_of at.old)) }
 {
-    let (label, then) = read_label(alloc, at, later, nesting)?;
+    let (label, then) = read_label(room, at, later, nesting)?;
     let span = span_from(first, at);
-    let parts = Box::new(alloc, EventParts { label, then })?;
+    let parts = Box::new(room.alloc, EventParts { label, then })?;
     Ok(SProc::Begin { parts, span })
 }
 
 #[cycle(processes)]
-fn read_end(alloc: Global, first: Span, at: &mut Reader<'_>, later: bool, nesting: u32) -> Part
+fn read_end<'b>(
+    room: Room<'b>,
+    first: Span,
+    at: &mut Reader<'_>,
+    later: bool,
+    nesting: u32,
+) -> Part<'b>
     requires { nesting ≤ 500 }
     ensures { GivesPart proc_of result (state_of at.new)
         (end_form later nesting (first ∷ []) (state_of at.old)) }
 {
-    let (label, then) = read_label(alloc, at, later, nesting)?;
+    let (label, then) = read_label(room, at, later, nesting)?;
     let span = span_from(first, at);
-    let parts = Box::new(alloc, EventParts { label, then })?;
+    let parts = Box::new(room.alloc, EventParts { label, then })?;
     Ok(SProc::End { parts, span })
 }
 
 #[cycle(processes)]
-fn read_end_many(alloc: Global, first: Span, at: &mut Reader<'_>, later: bool, nesting: u32) -> Part
+fn read_end_many<'b>(
+    room: Room<'b>,
+    first: Span,
+    at: &mut Reader<'_>,
+    later: bool,
+    nesting: u32,
+) -> Part<'b>
     requires { nesting ≤ 500 }
     ensures { GivesPart proc_of result (state_of at.new)
         (end_many_form later nesting (first ∷ []) (state_of at.old)) }
 {
-    let (label, then) = read_label(alloc, at, later, nesting)?;
+    let (label, then) = read_label(room, at, later, nesting)?;
     let span = span_from(first, at);
-    let parts = Box::new(alloc, EventParts { label, then })?;
+    let parts = Box::new(room.alloc, EventParts { label, then })?;
     Ok(SProc::EndMany { parts, span })
 }
 
 #[cycle(processes)]
-fn read_cast(alloc: Global, first: Span, at: &mut Reader<'_>, later: bool, nesting: u32) -> Part
+fn read_cast<'b>(
+    room: Room<'b>,
+    first: Span,
+    at: &mut Reader<'_>,
+    later: bool,
+    nesting: u32,
+) -> Part<'b>
     requires { nesting ≤ 500 }
     ensures { GivesPart proc_of result (state_of at.new)
         (cast_form later nesting (first ∷ []) (state_of at.old)) }
 {
-    let whole = message(alloc, at, later)?;
-    let (name, ty) = cast_head(alloc, at, later)?;
-    let then = sequence(alloc, at, later, nesting + 1)?;
+    let whole = message(room, at, later)?;
+    let (name, ty) = cast_head(room, at, later)?;
+    let then = sequence(room, at, later, nesting + 1)?;
     let span = span_from(first, at);
     let parts = Box::new(
-        alloc,
+        room.alloc,
         CastParts {
             whole,
             name,
@@ -495,46 +601,58 @@ fn read_cast(alloc: Global, first: Span, at: &mut Reader<'_>, later: bool, nesti
 }
 
 #[cycle(processes)]
-fn read_new(alloc: Global, first: Span, at: &mut Reader<'_>, later: bool, nesting: u32) -> Part
+fn read_new<'b>(
+    room: Room<'b>,
+    first: Span,
+    at: &mut Reader<'_>,
+    later: bool,
+    nesting: u32,
+) -> Part<'b>
     requires { nesting ≤ 500 }
     ensures { GivesPart proc_of result (state_of at.new)
         (new_form later nesting (first ∷ []) (state_of at.old)) }
 {
-    let (name, ty) = binder(alloc, at, later)?;
-    let then = sequence(alloc, at, later, nesting + 1)?;
+    let (name, ty) = binder(room, at, later)?;
+    let then = sequence(room, at, later, nesting + 1)?;
     let span = span_from(first, at);
-    let parts = Box::new(alloc, NewParts { name, ty, then })?;
+    let parts = Box::new(room.alloc, NewParts { name, ty, then })?;
     Ok(SProc::New { parts, span })
 }
 
-fn read_stop(alloc: Global, span: Span, at: &mut Reader<'_>) -> Part
+fn read_stop<'b>(room: Room<'b>, span: Span, at: &mut Reader<'_>) -> Part<'b>
     ensures { GivesPart proc_of result (state_of at.new) (done (stop span) (state_of at.old)) }
 {
     Ok(SProc::Stop { span })
 }
 
 #[cycle(processes)]
-fn read_group(alloc: Global, start: Span, at: &mut Reader<'_>, later: bool, nesting: u32) -> Part
+fn read_group<'b>(
+    room: Room<'b>,
+    start: Span,
+    at: &mut Reader<'_>,
+    later: bool,
+    nesting: u32,
+) -> Part<'b>
     requires { nesting ≤ 500 }
     ensures { GivesPart proc_of result (state_of at.new)
         (group_form later nesting (start ∷ []) (state_of at.old)) }
 {
-    let first = sequence(alloc, at, later, nesting + 1)?;
+    let first = sequence(room, at, later, nesting + 1)?;
     take_mark(at, Mark::Bar)?;
-    let rest = parallel(alloc, at, later, nesting + 1)?;
+    let rest = parallel(room, at, later, nesting + 1)?;
     take_mark(at, Mark::ParenClose)?;
     let span = span_from(start, at);
-    let parts = Box::new(alloc, BothParts { first, rest })?;
+    let parts = Box::new(room.alloc, BothParts { first, rest })?;
     Ok(SProc::Group { parts, span })
 }
 
 #[cycle(processes)]
-fn out_rest(
-    alloc: Global,
+fn out_rest<'b>(
+    room: Room<'b>,
     at: &mut Reader<'_>,
     later: bool,
     nesting: u32,
-) -> Result<Option<SProc>, Stop>
+) -> Result<Option<SProc<'b>>, Stop>
     requires { nesting ≤ 500 }
     ensures { GivesPart proc_option result (state_of at.new)
         (read limited (out_tail later nesting) (state_of at.old)) }
@@ -545,7 +663,7 @@ fn out_rest(
     match first.kind {
         Seen::Mark(Mark::Semicolon) => {
             at.advance();
-            let then = sequence(alloc, at, later, nesting + 1)?;
+            let then = sequence(room, at, later, nesting + 1)?;
             Ok(Some(then))
         }
         _ => Ok(None),
@@ -553,12 +671,12 @@ fn out_rest(
 }
 
 #[cycle(processes)]
-fn par_rest(
-    alloc: Global,
+fn par_rest<'b>(
+    room: Room<'b>,
     at: &mut Reader<'_>,
     later: bool,
     level: u32,
-) -> Result<Option<SProc>, Stop>
+) -> Result<Option<SProc<'b>>, Stop>
     requires { level ≤ 499 }
     ensures { GivesPart proc_option result (state_of at.new)
         (read limited (par_tail later level) (state_of at.old)) }
@@ -569,7 +687,7 @@ fn par_rest(
     match first.kind {
         Seen::Mark(Mark::Bar) => {
             at.advance();
-            let then = parallel(alloc, at, later, level + 1)?;
+            let then = parallel(room, at, later, level + 1)?;
             Ok(Some(then))
         }
         _ => Ok(None),

@@ -15,7 +15,8 @@ use spi_tree::SStep;
 use std::alloc::Global;
 
 fn act(at: &mut Reader<'_>) -> Result<u32, Stop>
-    ensures { GivesPart (λ x. (x, (state_of at.new).end)) result (state_of at.new) (read limited act_rest (state_of at.old)) }
+    ensures { GivesPart (λ x. (x, (state_of at.new).end)) result (state_of at.new)
+        (read limited act_rest (state_of at.old)) }
 {
     at.first()?;
     let place = take_number(at)?;
@@ -35,7 +36,8 @@ fn talk(at: &mut Reader<'_>) -> Result<(u32, u32), Stop>
 }
 
 fn next_step(at: &mut Reader<'_>) -> Result<Option<SStep>, Stop>
-    ensures { GivesPart (item_of step_of tt) result (state_of at.new) (read limited steps_item (state_of at.old)) }
+    ensures { GivesPart (item_of step_of tt) result (state_of at.new)
+        (read limited steps_item (state_of at.old)) }
 {
     let Ok(first) = at.first() else {
         return Ok(None);
@@ -62,7 +64,8 @@ fn next_step(at: &mut Reader<'_>) -> Result<Option<SStep>, Stop>
 
 /// The steps of a schedule.
 pub fn all_steps(alloc: Global, at: &mut Reader<'_>) -> Result<Vec<SStep>, Stop>
-    ensures { GivesPart (λ v. (map step_of v.items, tt)) result (state_of at.new) (read limited steps (state_of at.old)) }
+    ensures { GivesPart (λ v. (map step_of v.items, tt)) result (state_of at.new)
+        (read limited steps (state_of at.old)) }
 {
     let mut more = Vec::new(alloc);
     'items: loop {

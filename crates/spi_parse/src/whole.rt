@@ -11,8 +11,7 @@ use crate::cursor::{Reader, syntax};
 use crate::files::read_file;
 use crate::parts::fault_of;
 use spi_lex::Token;
-use spi_tree::Tree;
-use std::alloc::Global;
+use spi_tree::{Room, Tree};
 
 /// The tree whose tokens these are, with the spans of its nodes and words, or the first fault.
 ///
@@ -20,13 +19,13 @@ use std::alloc::Global;
 /// the number of tokens. `TooDeep` is at the first token at which a node of some tree starts that is above its nesting
 /// limit. `NoMemory` comes where memory runs out. `_end` is the length of the file in bytes, where a fault at the end is
 /// placed. What `lex` gives of a file meets both conditions (proofs/Lexed and proofs/Counted).
-pub fn parse(alloc: Global, tokens: &[Token], _end: u32) -> Result<Tree, ParseFault>
+pub fn parse<'b>(room: Room<'b>, tokens: &[Token], _end: u32) -> Result<Tree<'b>, ParseFault>
     requires size { length tokens.now ≤ 16_777_216 }
     requires words { AreWordsFit (is_version_2 (kinds_of tokens.now)) (kinds_of tokens.now) }
     ensures { Parses file_of result tokens.now }
 {
     let mut at = Reader::of(tokens);
-    match read_file(alloc, &mut at) {
+    match read_file(room, &mut at) {
         Ok(tree) => match at.first() {
             Err(_) => Ok(tree),
             Ok(_) => Err(fault_of(tokens.len(), syntax(&at))),

@@ -28,7 +28,7 @@ pub message_tuple : (base spent c : ℕ) (xs : Names) (s : Span) (a b : t.Msg) (
     → n0 ≡ stopped (n1 + 1)
     → Counted message_size y n2 (run (message_points xs b) c) c n0 (message_in base xs b)
     → Counted (λ (_ : Message). row_nodes (messages_in base xs ms)) rest n3 (run (messages_points xs ms) c) c n2 (nested y (messages_in base xs ms))
-    → whole ≡ pair x rest
+    → (n3 ≤ 1000 → whole ≡ pair x rest)
     → Counted message_size whole n3 (run (message_points xs (t.tuple s a b ms)) c) c spent (message_in base xs (t.tuple s a b ms))
 message_tuple base spent c xs s a b ms n0 n1 n2 n3 x y rest whole h1 e h2 h3 w = (
   ap (λ r. after r (run (message_points xs b ⨾ messages_points xs ms))) h1.0 ∙ ap (λ r. after r (run (messages_points xs ms))) h2.0 ∙ h3.0,
@@ -36,7 +36,7 @@ message_tuple base spent c xs s a b ms n0 n1 n2 n3 x y rest whole h1 e h2 h3 w =
   λ few.
       let l2 : n2 ≤ 1000 = omega (arith, few, h3.1) in
       let l1 : n1 ≤ 1000 = omega (arith, l2, h2.1, e) in
-      w ∙ ap (λ r. pair r rest) (h1.2 l1) ∙ ap (pair (message_in base xs a)) (h3.2 few ∙ ap (λ r. nested r (messages_in base xs ms)) (h2.2 l2)),
+      w few ∙ ap (λ r. pair r rest) (h1.2 l1) ∙ ap (pair (message_in base xs a)) (h3.2 few ∙ ap (λ r. nested r (messages_in base xs ms)) (h2.2 l2)),
 )
 
 pub nested_types_nodes : (bs : List Ty) (z : Ty) → ty_nodes (nested_types bs z) ≡ type_row_nodes bs + ty_nodes z

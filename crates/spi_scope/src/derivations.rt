@@ -1,8 +1,8 @@
 //! Derivations.
 
-ghost use Rattle.std.specs.Prelude.{◌≡◌, ◌+◌, ◌≤◌, [], ◌∷◌, ◌++◌, map, IfOk, OnOk, Some, Ok};
+ghost use Rattle.std.specs.Prelude.{◌≡◌, ◌+◌, ◌≤◌, ◌++◌, map, IfOk, OnOk, Some};
 ghost use Rattle.spi_tree.specs.Trees.{msgs_of_list, derivs_of_list};
-ghost use Rattle.spi_tree.specs.Views.{msg_of, msgs_of_more, atom_of, tree_effect, deriv_of};
+ghost use Rattle.spi_tree.specs.Views.{msg_of, atom_of, tree_effect, deriv_of};
 ghost use Rattle.spi_term.specs.Term.{message_size};
 ghost use Rattle.spi_term.specs.Spelling.{stopped};
 ghost use Rattle.spi_term.specs.View.{message, atom};
@@ -13,23 +13,16 @@ ghost use Rattle.spi_scope.specs.Gives.{GivesMeant, run};
 ghost use Rattle.spi_scope.specs.Leads.{LeadsTo};
 ghost use Rattle.spi_scope.specs.State.{row_nodes};
 
-use crate::NoMemory;
 use crate::fault::ScopeFault;
 use crate::messages::nest;
+use crate::small::{keep, room_for};
 use crate::types::message_place;
+use crate::{NoMemory, small};
 use spi_rules::{Rule, RuleUse};
 use spi_term::{Atom, Effect, Msg};
 use spi_text::Span;
-use spi_tree::{More, SAtom, SDeriv, SMsg};
+use spi_tree::{SAtom, SDeriv, SEffect, SMsg};
 use std::alloc::Global;
-
-/// The message in a box, with its nodes.
-fn boxed(alloc: Global, read: Result<(Msg, u64), NoMemory>) -> Result<(Box<Msg>, u64), NoMemory>
-    ensures { IfOk result (λ b. read ≡ Ok (b.0.value, b.1)) }
-{
-    let (m, total) = read?;
-    Ok((Box::new(alloc, m)?, total))
-}
 
 /// A message with numbers for names, with its nodes counted on. Where there are more than 1,000 nodes the message
 /// means nothing.
@@ -41,60 +34,42 @@ fn read_numbered(alloc: Global, spent: u64, m: &SMsg) -> Result<(Msg, u64), NoMe
 {
     match m {
         SMsg::Name { .. } => Ok((Msg::Unit, spent.saturating_add(1))),
+        SMsg::Placed { .. } => Ok((Msg::Unit, spent.saturating_add(1))),
         SMsg::Unit { .. } => Ok((Msg::Unit, spent.saturating_add(1))),
         SMsg::Tuple { parts, .. } => {
             let (first, total) = read_numbered(alloc, spent, &parts.first)?;
             let (second, total) = read_numbered(alloc, total.saturating_add(1), &parts.second)?;
-            let (more, total) = read_more_numbered(alloc, total, &parts.more)?;
+            let (more, total) = read_all_numbered(alloc, total, parts.more)?;
             let whole = nest(alloc, total, first, second, more)?;
             Ok((whole, total))
         }
         SMsg::Inl { part, .. } => {
-            let part = read_numbered(alloc, spent.saturating_add(1), part);
-            let (part, total) = boxed(alloc, part)?;
-            Ok((Msg::Inl(part), total))
+            let (part, total) = read_numbered(alloc, spent.saturating_add(1), part)?;
+            let whole = small::left(alloc, total, part)?;
+            Ok((whole, total))
         }
         SMsg::Inr { part, .. } => {
-            let part = read_numbered(alloc, spent.saturating_add(1), part);
-            let (part, total) = boxed(alloc, part)?;
-            Ok((Msg::Inr(part), total))
+            let (part, total) = read_numbered(alloc, spent.saturating_add(1), part)?;
+            let whole = small::right(alloc, total, part)?;
+            Ok((whole, total))
         }
-        SMsg::Enc { body, key, .. } => {
-            let (body, total) = read_numbered(alloc, spent.saturating_add(1), body)?;
-            let (key, total) = read_numbered(alloc, total, key)?;
-            let whole = Msg::sealed(alloc, body, key)?;
+        SMsg::Enc { parts, .. } => {
+            let (body, total) = read_numbered(alloc, spent.saturating_add(1), &parts.body)?;
+            let (key, total) = read_numbered(alloc, total, &parts.key)?;
+            let whole = small::sealed(alloc, total, body, key)?;
             Ok((whole, total))
         }
         SMsg::Hash { part, .. } => {
-            let part = read_numbered(alloc, spent.saturating_add(1), part);
-            let (part, total) = boxed(alloc, part)?;
-            Ok((Msg::Hash(part), total))
+            let (part, total) = read_numbered(alloc, spent.saturating_add(1), part)?;
+            let whole = small::hashed(alloc, total, part)?;
+            Ok((whole, total))
         }
         SMsg::Num { number, .. } => Ok((Msg::Name(*number), spent.saturating_add(1))),
     }
 }
 
-/// The components of a tuple but the first two, with their nodes and those of the pairs counted on.
-#[cycle(numbered)]
-fn read_more_numbered(alloc: Global, spent: u64, more: &More) -> Result<(Vec<Msg>, u64), NoMemory>
-    ensures counted { IfOk result
-        (λ x. x.1 ≡ stopped (spent + row_nodes (numbered_messages (msgs_of_more more.now)))) }
-    ensures read { IfOk result
-        (λ x. x.1 ≤ 1000 → map message x.0.items ≡ numbered_messages (msgs_of_more more.now)) }
-{
-    match more {
-        More::None => Ok((Vec::new(alloc), spent)),
-        More::One(part) => {
-            let mut read = Vec::new(alloc);
-            let (part, total) = read_numbered(alloc, spent.saturating_add(1), part)?;
-            read.push(part)?;
-            Ok((read, total))
-        }
-        More::Several(parts) => read_all_numbered(alloc, spent, parts),
-    }
-}
-
-/// The same of those that lie in a vector.
+/// The components of a tuple but the first two, with their nodes and those of the pairs counted on. Where there are
+/// more than 1,000 nodes only the first components are kept.
 #[cycle(numbered)]
 fn read_all_numbered(alloc: Global, spent: u64, ms: &[SMsg]) -> Result<(Vec<Msg>, u64), NoMemory>
     ensures counted { IfOk result
@@ -102,12 +77,12 @@ fn read_all_numbered(alloc: Global, spent: u64, ms: &[SMsg]) -> Result<(Vec<Msg>
     ensures read { IfOk result
         (λ x. x.1 ≤ 1000 → map message x.0.items ≡ numbered_messages (msgs_of_list (map msg_of ms.now))) }
 {
-    let mut read = Vec::new(alloc);
+    let mut read = room_for(alloc, ms.len())?;
     let mut total = spent;
     for m in ms {
         let (part, so_far) = read_numbered(alloc, total.saturating_add(1), m)?;
         total = so_far;
-        read.push(part)?;
+        keep(total, &mut read, part)?;
     }
     Ok((read, total))
 }
@@ -141,7 +116,7 @@ fn read_atoms(alloc: Global, count: u64, es: &[SAtom]) -> Result<Vec<Atom>, Scop
         (run (numbered_atoms_points (map atom_of es.now)) count)
         count (map numbered_atom (map atom_of es.now)) }
 {
-    let mut read = Vec::new(alloc);
+    let mut read = room_for(alloc, es.len())?;
     for a in es {
         let atom = read_atom(alloc, count, a)?;
         read.push(atom)?;
@@ -153,14 +128,14 @@ fn read_atoms(alloc: Global, count: u64, es: &[SAtom]) -> Result<Vec<Atom>, Scop
 fn read_written(
     alloc: Global,
     count: u64,
-    effect: &Option<Vec<SAtom>>,
+    effect: &Option<&SEffect>,
 ) -> Result<Option<Effect>, ScopeFault>
     ensures { GivesMeant effect_written result (run (written_points (tree_effect effect.now)) count) count
         (numbered_effect (tree_effect effect.now)) }
 {
     match effect {
         None => Ok(None),
-        Some(es) => read_effect(alloc, count, es),
+        Some(effect) => read_effect(alloc, count, effect.atoms),
     }
 }
 

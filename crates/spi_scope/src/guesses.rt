@@ -37,17 +37,16 @@ impl Guesses {
 
     /// The slot that is guessed.
     #[inline(always)]
-    pub fn slot(&self, spelling: &Spelling) -> Option<usize> {
-        let slot = self.slots.get(place(spelling, self.slots.len()))?;
-        Some(*slot as usize)
+    pub fn slot(&self, spelling: &Spelling) -> Option<u32> {
+        self.slots.get(place(spelling, self.slots.len())).copied()
     }
 
     /// The slot that is guessed from now on.
     #[inline(always)]
-    pub fn put(&mut self, spelling: &Spelling, slot: usize) {
+    pub fn put(&mut self, spelling: &Spelling, slot: u32) {
         let at = place(spelling, self.slots.len());
         if let Some(stored) = self.slots.get_mut(at) {
-            *stored = (slot & 0xffff_ffff) as u32;
+            *stored = slot;
         }
     }
 }

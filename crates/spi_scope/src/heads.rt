@@ -2,7 +2,7 @@
 
 ghost use Rattle.std.specs.Prelude.{◌≡◌, ◌≤◌, ◌∷◌, IfOk, OnOk};
 ghost use Rattle.spi_tree.specs.Trees.{name, un as untrusted};
-ghost use Rattle.spi_tree.specs.Views.{msg_of, ty_of};
+ghost use Rattle.spi_tree.specs.Views.{msg_of, ty_of, word_to};
 ghost use Rattle.spi_term.specs.Term.{un};
 ghost use Rattle.spi_term.specs.Spelling.{ty_nodes};
 ghost use Rattle.spi_term.specs.View.{message, ty};
@@ -14,12 +14,12 @@ ghost use Rattle.spi_scope.specs.State.{abbreviations};
 ghost use Rattle.spi_scope.specs.Forms.{KeepsScope};
 
 use crate::fault::ScopeFault;
-use crate::messages::{name_at, unknown};
+use crate::messages::{name_at, unknown_to};
 use crate::scope::Scope;
 use crate::types::{message_place, read_type, read_whole};
 use spi_term::{Msg, Ty};
-use spi_text::Span;
-use spi_tree::{SMsg, STy, SWord};
+use spi_text::{Span, Text};
+use spi_tree::{SMsg, STy, SWord, place_to};
 use std::alloc::Global;
 
 /// So many nodes come to the count.
@@ -46,9 +46,24 @@ pub fn read_part(alloc: Global, scope: &mut Scope, base: u32, m: &SMsg) -> Resul
     ensures kept { OnOk result (KeepsScope scope.old scope.new) }
 {
     match m {
-        SMsg::Name { name } => read_name_part(alloc, scope, base, name),
+        SMsg::Name { to, word } => read_name_part(alloc, scope, base, *to, word),
         _ => read_large_part(alloc, scope, base, m),
     }
+}
+
+/// A name that ends at this offset comes to the count.
+#[inline(always)]
+fn add_name(scope: &mut Scope, to: u32, word: &Text) -> Result<(), ScopeFault>
+    requires few { scope.old.count ≤ 100000 }
+    ensures gives { LeadsTo result (run (one (adds 1 (word_to to word.now).span)) scope.old.count)
+        scope.new.count }
+    ensures kept { OnOk result (KeepsScope scope.old scope.new) }
+{
+    if scope.count < 100_000 {
+        scope.count += 1;
+        return Ok(());
+    }
+    add(scope, 1, place_to(to, word))
 }
 
 /// An outermost message that is a name.
@@ -57,19 +72,21 @@ fn read_name_part(
     alloc: Global,
     scope: &mut Scope,
     base: u32,
-    word: &SWord,
+    to: u32,
+    word: &Text,
 ) -> Result<Msg, ScopeFault>
     requires few { scope.old.count ≤ 100000 }
     ensures gives { GivesMeant message result
-        (run (part scope.old.held.names (name word.now.span word.now)) scope.old.count) scope.new.count
-        (message_in base scope.old.held.names (name word.now.span word.now)) }
+        (run (part scope.old.held.names (name (word_to to word.now).span (word_to to word.now)))
+        scope.old.count) scope.new.count
+        (message_in base scope.old.held.names (name (word_to to word.now).span (word_to to word.now))) }
     ensures kept { OnOk result (KeepsScope scope.old scope.new) }
 {
-    match scope.held.number(word.word.as_str()) {
-        None => Err(unknown(alloc, word)),
+    match scope.held.number(word.as_str()) {
+        None => Err(unknown_to(alloc, to, word)),
         Some(number) => {
             let len = scope.held.len();
-            add(scope, 1, word.span)?;
+            add_name(scope, to, word)?;
             Ok(name_at(base, len, number))
         }
     }
@@ -101,7 +118,8 @@ fn type_place(t: &STy) -> Span
         STy::Sum { span, .. } => *span,
         STy::Key { span, .. } => *span,
         STy::Nonce { span, .. } => *span,
-        STy::Abbr { name } => name.span,
+        STy::Abbr { to, word } => place_to(*to, word),
+        STy::Placed { name } => name.span,
     }
 }
 

@@ -18,6 +18,7 @@ mod resolution;
 mod room;
 mod schedules;
 mod scope;
+mod small;
 mod spelling;
 mod trail;
 mod types;

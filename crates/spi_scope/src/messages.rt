@@ -1,9 +1,9 @@
 //! Messages.
 
-ghost use Rattle.std.specs.Prelude.{◌≡◌, ◌⊎◌, ◌+◌, ◌<◌, ◌≤◌, [], ◌∷◌, ◌++◌, map, length, IfOk, IfErr, OnOk, Some, Ok, Err};
-ghost use Rattle.spi_tree.specs.Views.{msg_of, msgs_of_more};
+ghost use Rattle.std.specs.Prelude.{◌≡◌, ◌⊎◌, ◌<◌, ◌≤◌, ◌∷◌, map, length, IfOk, Some};
+ghost use Rattle.spi_tree.specs.Views.{msg_of, word_to};
 ghost use Rattle.spi_tree.specs.Trees.{inl, inr, hash, no_msgs, more_msgs, msgs_of_list, nowhere};
-ghost use Rattle.spi_term.specs.Term.{message_size, unit, pair};
+ghost use Rattle.spi_term.specs.Term.{message_size};
 ghost use Rattle.spi_term.specs.View.{message};
 ghost use Rattle.spi_scope.specs.declared.fault.ScopeFault.TheVariants.{NoMemory as OutOfMemory, UnknownName};
 ghost use Rattle.spi_scope.specs.Scope.{number_of};
@@ -15,8 +15,11 @@ ghost use Rattle.spi_scope.specs.Forms.{message_form, tuple_form, enc_form};
 
 use crate::fault::ScopeFault;
 use crate::scope::Scope;
+use crate::small;
+use crate::small::{keep, room_for};
 use spi_term::Msg;
-use spi_tree::{More, SMsg, SWord};
+use spi_text::{Span, Text};
+use spi_tree::{SMsg, SWord, place_to};
 use std::alloc::{AllocError, Global};
 
 /// The name with this number, of so many in scope.
@@ -32,35 +35,66 @@ pub fn name_at(base: u32, scope: u32, number: u32) -> Msg
     }
 }
 
-/// The name with this spelling. It is one node.
+/// The name with this spelling, which ends at this offset. It is one node.
 #[inline(always)]
 fn read_name(
     alloc: Global,
     scope: &Scope,
     base: u32,
     spent: u64,
-    word: &SWord,
+    to: u32,
+    word: &Text,
 ) -> Result<(Msg, u64), ScopeFault>
     ensures { CountsOn message message_size result
-        (run (one (uses_name scope.now.held.names word.now)) scope.now.count) scope.now.count spent
-        (name_meant base (length scope.now.held.names) (number_of scope.now.held.names word.now.word)) }
+        (run (one (uses_name scope.now.held.names (word_to to word.now))) scope.now.count)
+        scope.now.count spent
+        (name_meant base (length scope.now.held.names) (number_of scope.now.held.names word.now)) }
 {
-    match scope.held.number(word.word.as_str()) {
+    match scope.held.number(word.as_str()) {
         Some(number) => Ok((
             name_at(base, scope.held.len(), number),
             spent.saturating_add(1),
         )),
-        None => Err(unknown(alloc, word)),
+        None => Err(unknown_to(alloc, to, word)),
     }
 }
 
-/// What is told of a name that isn't in scope.
+/// The name with this spelling, which stands anywhere. It is one node.
 #[inline(never)]
-pub fn unknown(alloc: Global, word: &SWord) -> ScopeFault
-    ensures { (result ≡ OutOfMemory) ⊎ (result ≡ UnknownName word.now.span word.now.word) }
+fn read_placed(
+    alloc: Global,
+    scope: &Scope,
+    base: u32,
+    spent: u64,
+    name: &SWord,
+) -> Result<(Msg, u64), ScopeFault>
+    ensures { CountsOn message message_size result
+        (run (one (uses_name scope.now.held.names name.now)) scope.now.count) scope.now.count spent
+        (name_meant base (length scope.now.held.names) (number_of scope.now.held.names name.now.word)) }
 {
-    let span = word.span;
-    match word.word.copy(alloc) {
+    match scope.held.number(name.word.as_str()) {
+        Some(number) => Ok((
+            name_at(base, scope.held.len(), number),
+            spent.saturating_add(1),
+        )),
+        None => Err(unknown(alloc, name.span, &name.word)),
+    }
+}
+
+/// What is told of a name that isn't in scope, and that ends at this offset.
+#[inline(never)]
+pub fn unknown_to(alloc: Global, to: u32, word: &Text) -> ScopeFault
+    ensures { (result ≡ OutOfMemory) ⊎ (result ≡ UnknownName (word_to to word.now).span word.now) }
+{
+    unknown(alloc, place_to(to, word), word)
+}
+
+/// What is told of a name that isn't in scope, and that stands here.
+#[inline(never)]
+fn unknown(alloc: Global, span: Span, word: &Text) -> ScopeFault
+    ensures { (result ≡ OutOfMemory) ⊎ (result ≡ UnknownName span word.now) }
+{
+    match word.copy(alloc) {
         Ok(word) => ScopeFault::UnknownName { span, word },
         Err(_) => ScopeFault::NoMemory,
     }
@@ -78,7 +112,7 @@ pub fn nest(
         (λ m. total ≤ 1000 → message m ≡ nested (message first) (message second ∷ map message more.items)) }
 {
     let rest = nest_small(alloc, total, second, more)?;
-    Msg::paired(alloc, first, rest)
+    small::paired(alloc, total, first, rest)
 }
 
 /// A message and what is behind it, nested to the right where there are few enough nodes.
@@ -103,18 +137,6 @@ fn nest_rest(alloc: Global, first: Msg, mut more: Vec<Msg>) -> Result<Msg, Alloc
     Msg::paired(alloc, first, last)
 }
 
-/// The term in a box, with its nodes.
-pub fn boxed<T: Drop>(
-    alloc: Global,
-    read: Result<(T, u64), ScopeFault>,
-) -> Result<(Box<T>, u64), ScopeFault>
-    ensures ok { IfOk result (λ b. read ≡ Ok (b.0.value, b.1)) }
-    ensures err { IfErr result (λ e. (e ≡ OutOfMemory) ⊎ (read ≡ Err e)) }
-{
-    let (term, total) = read?;
-    Ok((Box::new(alloc, term)?, total))
-}
-
 /// The message that this one stands for, with its nodes counted on. Names below `base` are written by their numbers.
 /// Where there are more than 1,000 nodes the message means nothing.
 #[cycle(messages)]
@@ -131,7 +153,7 @@ pub fn read_message(
         (message_in base scope.now.held.names (msg_of m.now)) }
 {
     match m {
-        SMsg::Name { name } => read_name(alloc, scope, base, spent, name),
+        SMsg::Name { to, word } => read_name(alloc, scope, base, spent, *to, word),
         _ => read_term(alloc, scope, base, spent, m),
     }
 }
@@ -150,7 +172,8 @@ fn read_term(
         (message_in base scope.now.held.names (msg_of m.now)) }
 {
     match m {
-        SMsg::Name { name } => read_name(alloc, scope, base, spent, name),
+        SMsg::Name { to, word } => read_name(alloc, scope, base, spent, *to, word),
+        SMsg::Placed { name } => read_placed(alloc, scope, base, spent, name),
         SMsg::Unit { .. } => Ok((Msg::Unit, spent.saturating_add(1))),
         SMsg::Tuple { .. } => read_tuple(alloc, scope, base, spent, m),
         SMsg::Inl { part, .. } => read_inl(alloc, scope, base, spent, part),
@@ -180,31 +203,15 @@ fn read_tuple(
             let (first, total) = read_message(alloc, scope, base, spent, &parts.first)?;
             let second = &parts.second;
             let (next, total) = read_message(alloc, scope, base, total.saturating_add(1), second)?;
-            let (rest, total) = read_more(alloc, scope, base, total, &parts.more, next)?;
-            let whole = Msg::paired(alloc, first, rest)?;
+            let (rest, total) = read_more(alloc, scope, base, total, parts.more, next)?;
+            let whole = small::paired(alloc, total, first, rest)?;
             Ok((whole, total))
         }
-        SMsg::Name { .. } | SMsg::Unit { .. } | SMsg::Num { .. } => unreachable!(),
+        SMsg::Name { .. } | SMsg::Placed { .. } => unreachable!(),
+        SMsg::Unit { .. } | SMsg::Num { .. } => unreachable!(),
         SMsg::Inl { .. } | SMsg::Inr { .. } => unreachable!(),
         SMsg::Enc { .. } | SMsg::Hash { .. } => unreachable!(),
     }
-}
-
-/// The message that this one stands for, in a box, with its nodes counted on.
-#[cycle(messages)]
-fn read_boxed(
-    alloc: Global,
-    scope: &Scope,
-    base: u32,
-    spent: u64,
-    m: &SMsg,
-) -> Result<(Box<Msg>, u64), ScopeFault>
-    ensures { CountsOn (λ b. message b.value) message_size result
-        (run (message_points scope.now.held.names (msg_of m.now)) scope.now.count) scope.now.count spent
-        (message_in base scope.now.held.names (msg_of m.now)) }
-{
-    let (read, total) = read_message(alloc, scope, base, spent, m)?;
-    Ok((Box::new(alloc, read)?, total))
 }
 
 /// The message that `inl M` stands for, of this `M`.
@@ -220,8 +227,9 @@ fn read_inl(
         (run (message_points scope.now.held.names (inl nowhere (msg_of part.now))) scope.now.count)
         scope.now.count spent (message_in base scope.now.held.names (inl nowhere (msg_of part.now))) }
 {
-    let (part, total) = read_boxed(alloc, scope, base, spent.saturating_add(1), part)?;
-    Ok((Msg::Inl(part), total))
+    let (part, total) = read_message(alloc, scope, base, spent.saturating_add(1), part)?;
+    let whole = small::left(alloc, total, part)?;
+    Ok((whole, total))
 }
 
 /// The message that `inr M` stands for, of this `M`.
@@ -237,8 +245,9 @@ fn read_inr(
         (run (message_points scope.now.held.names (inr nowhere (msg_of part.now))) scope.now.count)
         scope.now.count spent (message_in base scope.now.held.names (inr nowhere (msg_of part.now))) }
 {
-    let (part, total) = read_boxed(alloc, scope, base, spent.saturating_add(1), part)?;
-    Ok((Msg::Inr(part), total))
+    let (part, total) = read_message(alloc, scope, base, spent.saturating_add(1), part)?;
+    let whole = small::right(alloc, total, part)?;
+    Ok((whole, total))
 }
 
 /// The message that `{M}N` stands for, with its nodes counted on.
@@ -256,13 +265,15 @@ fn read_enc(
         (message_in base scope.now.held.names (msg_of m.now)) }
 {
     match m {
-        SMsg::Enc { body, key, .. } => {
+        SMsg::Enc { parts, .. } => {
+            let body = &parts.body;
             let (body, total) = read_message(alloc, scope, base, spent.saturating_add(1), body)?;
-            let (key, total) = read_message(alloc, scope, base, total, key)?;
-            let whole = Msg::sealed(alloc, body, key)?;
+            let (key, total) = read_message(alloc, scope, base, total, &parts.key)?;
+            let whole = small::sealed(alloc, total, body, key)?;
             Ok((whole, total))
         }
-        SMsg::Name { .. } | SMsg::Unit { .. } | SMsg::Num { .. } => unreachable!(),
+        SMsg::Name { .. } | SMsg::Placed { .. } => unreachable!(),
+        SMsg::Unit { .. } | SMsg::Num { .. } => unreachable!(),
         SMsg::Inl { .. } | SMsg::Inr { .. } => unreachable!(),
         SMsg::Tuple { .. } | SMsg::Hash { .. } => unreachable!(),
     }
@@ -281,8 +292,9 @@ fn read_hash(
         (run (message_points scope.now.held.names (hash nowhere (msg_of part.now))) scope.now.count)
         scope.now.count spent (message_in base scope.now.held.names (hash nowhere (msg_of part.now))) }
 {
-    let (part, total) = read_boxed(alloc, scope, base, spent.saturating_add(1), part)?;
-    Ok((Msg::Hash(part), total))
+    let (part, total) = read_message(alloc, scope, base, spent.saturating_add(1), part)?;
+    let whole = small::hashed(alloc, total, part)?;
+    Ok((whole, total))
 }
 
 /// The second component of a tuple with those behind it, nested to the right, with the nodes of these and of the pairs
@@ -293,19 +305,19 @@ fn read_more(
     scope: &Scope,
     base: u32,
     spent: u64,
-    more: &More,
+    more: &[SMsg],
     next: Msg,
 ) -> Result<(Msg, u64), ScopeFault>
     ensures { CountsOn message
-        (λ _. row_nodes (messages_in base scope.now.held.names (msgs_of_more more.now))) result
-        (run (messages_points scope.now.held.names (msgs_of_more more.now)) scope.now.count)
+        (λ _. row_nodes (messages_in base scope.now.held.names (msgs_of_list (map msg_of more.now)))) result
+        (run (messages_points scope.now.held.names (msgs_of_list (map msg_of more.now))) scope.now.count)
         scope.now.count spent
-        (nested (message next) (messages_in base scope.now.held.names (msgs_of_more more.now))) }
+        (nested (message next) (messages_in base scope.now.held.names (msgs_of_list (map msg_of more.now)))) }
 {
     match more {
-        More::None => Ok((next, spent)),
-        More::One(last) => read_last(alloc, scope, base, spent, last, next),
-        More::Several(more) => read_rest(alloc, scope, base, spent, more, next),
+        [] => Ok((next, spent)),
+        [last] => read_last(alloc, scope, base, spent, last, next),
+        _ => read_rest(alloc, scope, base, spent, more, next),
     }
 }
 
@@ -327,7 +339,7 @@ fn read_last(
         (messages_in base scope.now.held.names (more_msgs (msg_of last.now) no_msgs))) }
 {
     let (last, total) = read_message(alloc, scope, base, spent.saturating_add(1), last)?;
-    let whole = Msg::paired(alloc, next, last)?;
+    let whole = small::paired(alloc, total, next, last)?;
     Ok((whole, total))
 }
 
@@ -352,18 +364,6 @@ fn read_rest(
     Ok((whole, total))
 }
 
-/// Keeps one more component of a tuple where there are few enough nodes with it.
-#[inline(always)]
-fn keep(total: u64, read: &mut Vec<Msg>, part: Msg) -> Result<(), AllocError>
-    ensures { OnOk result (total ≤ 1000 → read.new.items ≡ read.old.items ++ part ∷ []) }
-{
-    if total > 1000 {
-        return Ok(());
-    }
-    read.push(part)?;
-    Ok(())
-}
-
 /// The components of a tuple but the first two, with their nodes and those of the pairs counted on. Where there are
 /// more than 1,000 nodes only the first components are kept, so that a long tuple takes little memory.
 #[cycle(messages)]
@@ -378,7 +378,7 @@ fn read_messages(
         (run (messages_points scope.now.held.names (msgs_of_list (map msg_of ms.now))) scope.now.count)
         scope.now.count spent (messages_in base scope.now.held.names (msgs_of_list (map msg_of ms.now))) }
 {
-    let mut read = Vec::new(alloc);
+    let mut read = room_for(alloc, ms.len())?;
     let mut total = spent;
     for m in ms {
         let (part, so_far) = read_message(alloc, scope, base, total.saturating_add(1), m)?;

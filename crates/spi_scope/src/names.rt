@@ -17,13 +17,13 @@ use spi_text::Text;
 use std::alloc::{AllocError, Global};
 use std::marker::Model;
 
-/// A name in scope: its spelling and the slot of that in the table, the number that it hides, and the number of the
-/// chain that it begins.
+/// A name in scope: its spelling, the number that it hides, the slot of its spelling in the table, and the number of the
+/// chain that it begins, where it has one.
 #[derive(Drop)]
 pub struct Held<'t> {
     pub word: &'t Text,
-    pub slot: usize,
     pub before: Option<u32>,
+    pub slot: u32,
     pub chain: u32,
 }
 
@@ -57,14 +57,14 @@ fn known<'t>(
     innermost: &IndexMap<Spelling<'t>, Option<u32>>,
     guesses: &Guesses,
     spelling: &Spelling,
-) -> Option<(usize, Option<u32>)>
+) -> Option<(u32, Option<u32>)>
     ensures entry { IfSome result
         (λ r. slice_get innermost.now.entries r.0 ≡ Some (spelling.now, r.1)) }
     ensures value { IfSome result (λ r. get bytes_eq innermost.now spelling.now ≡ Some r.1) }
     ensures within { IfSome result (λ r. r.0 < index_map_len innermost.now) }
 {
     let slot = guesses.slot(spelling)?;
-    let (key, number) = innermost.get_index(slot)?;
+    let (key, number) = innermost.get_index(slot as usize)?;
     if *key == *spelling {
         Some((slot, *number))
     } else {
@@ -80,7 +80,8 @@ fn looked_up(innermost: &IndexMap<Spelling, Option<u32>>, word: &str) -> Option<
     innermost.get(&Spelling::of(word)).copied().flatten()
 }
 
-/// One more name in scope, whose spelling may be in the table or not. Gives back whether a name was spelled so.
+/// One more name in scope, whose spelling may be in the table or not. Gives back whether a name was spelled so. There is
+/// no room for more than 2 ^ 32 spellings, and so many don't come: each is that of a token of its own.
 #[inline(never)]
 fn enter<'t>(
     innermost: &mut IndexMap<Spelling<'t>, Option<u32>>,
@@ -97,13 +98,17 @@ fn enter<'t>(
         (λ hid. hid ≡ is_some (number_of (spellings (reverse hidden.old.items)) word.now)) }
     ensures err { OnErr result (hidden.new.items ≡ hidden.old.items) }
 {
+    if innermost.len() > 4_294_967_295 {
+        return Err(AllocError);
+    }
     let number = hidden.len() as u32;
-    let (slot, old) = innermost.insert_full(Spelling::of(word.as_str()), Some(number))?;
+    let (at, old) = innermost.insert_full(Spelling::of(word.as_str()), Some(number))?;
+    let slot = at as u32;
     let before = old.flatten();
     match hidden.push(Held {
         word,
-        slot,
         before,
+        slot,
         chain,
     }) {
         Ok(()) => {
@@ -111,7 +116,7 @@ fn enter<'t>(
             Ok(before.is_some())
         }
         Err(failed) => {
-            set_number(innermost, slot, before);
+            set_number(innermost, at, before);
             Err(AllocError::from(failed))
         }
     }
@@ -124,7 +129,7 @@ fn enter_at<'t>(
     hidden: &mut Vec<Held<'t>>,
     word: &'t Text,
     chain: u32,
-    slot: usize,
+    slot: u32,
     before: Option<u32>,
 ) -> Result<bool, NoMemory>
     requires keeps { KeepsTable innermost.old hidden.old.items }
@@ -141,12 +146,35 @@ fn enter_at<'t>(
     let its_number = hidden.len() as u32;
     hidden.push(Held {
         word,
-        slot,
         before,
+        slot,
         chain,
     })?;
-    set_number(innermost, slot, Some(its_number));
+    set_number(innermost, slot as usize, Some(its_number));
     Ok(before.is_some())
+}
+
+/// One more name in scope, whose spelling is looked for first where it is guessed. Gives back whether a name was spelled so.
+#[inline(always)]
+fn enter_guessed<'t>(
+    innermost: &mut IndexMap<Spelling<'t>, Option<u32>>,
+    hidden: &mut Vec<Held<'t>>,
+    guesses: &mut Guesses,
+    word: &'t Text,
+    chain: u32,
+) -> Result<bool, NoMemory>
+    requires keeps { KeepsTable innermost.old hidden.old.items }
+    requires room { length hidden.old.items + 1 < 2 ^ 32 }
+    ensures keeps { KeepsTable innermost.new hidden.new.items }
+    ensures ok { OnOk result (IsPushed hidden.old.items hidden.new.items word.now chain) }
+    ensures hid { IfOk result
+        (λ hid. hid ≡ is_some (number_of (spellings (reverse hidden.old.items)) word.now)) }
+    ensures err { OnErr result (hidden.new.items ≡ hidden.old.items) }
+{
+    match known(innermost, guesses, &Spelling::of(word.as_str())) {
+        Some((slot, before)) => enter_at(innermost, hidden, word, chain, slot, before),
+        None => enter(innermost, hidden, guesses, word, chain),
+    }
 }
 
 /// The innermost name goes out of scope.
@@ -157,22 +185,23 @@ fn leave<'t>(innermost: &mut IndexMap<Spelling<'t>, Option<u32>>, hidden: &mut V
     ensures out { IsPopped hidden.old.items hidden.new.items }
 {
     if let Some(Held { slot, before, .. }) = hidden.pop() {
-        set_number(innermost, slot, before);
+        set_number(innermost, slot as usize, before);
     }
 }
 
 /// The names in scope. A contract sees their spellings, the innermost first, and those that were in scope at each
-/// node that was noted.
+/// node that was noted. The innermost of them that a type binds, so many as are loose, have no chain.
 #[derive(Drop)]
 pub struct Names<'t> {
     innermost: IndexMap<Spelling<'t>, Option<u32>>,
     hidden: Vec<Held<'t>>,
     trail: Trail<'t>,
     guesses: Guesses,
+    loose: u32,
 }
 
 impl<'t> Model for Names<'t> {
-    ghost use Rattle.std.specs.Prelude.{reverse};
+    ghost use Rattle.std.specs.Prelude.{◌≤◌, drop, length, reverse};
     ghost use Rattle.spi_scope.specs.Table.{Naming, coded_naming, KeepsTable, Begin, spellings};
 
     ghost Value = { Naming };
@@ -182,7 +211,8 @@ impl<'t> Model for Names<'t> {
     ghost view = { λ s. record { names = spellings (reverse s.hidden.items); noted = s.trail.noted } };
 
     ghost invariant = { λ s.
-        KeepsTable s.innermost s.hidden.items × Begin s.trail.chains (reverse s.hidden.items) };
+        KeepsTable s.innermost s.hidden.items × Begin s.trail.chains (drop s.loose (reverse s.hidden.items))
+        × (s.loose ≤ length s.hidden.items) };
 }
 
 impl<'t> Names<'t> {
@@ -196,6 +226,7 @@ impl<'t> Names<'t> {
             hidden: Vec::new(alloc),
             trail: Trail::new(alloc),
             guesses: Guesses::new(alloc),
+            loose: 0,
         }
     }
 
@@ -234,28 +265,49 @@ impl<'t> Names<'t> {
         ensures names { OnOk result (self.new ≡ with_names self.old (word.now ∷ self.old.names)) }
         ensures hid { IfOk result (λ hid. hid ≡ is_some (number_of self.old.names word.now)) }
     {
+        if self.loose > 0 {
+            return self.bind_loose(word);
+        }
         if self.hidden.len() >= 4_294_967_295 {
             return Err(AllocError);
         }
         let outer = top_chain(&self.hidden);
         let chain = self.trail.extend(word, outer)?;
-        match known(&self.innermost, &self.guesses, &Spelling::of(word.as_str())) {
-            Some((slot, before)) => enter_at(
-                &mut self.innermost,
-                &mut self.hidden,
-                word,
-                chain,
-                slot,
-                before,
-            ),
-            None => enter(
-                &mut self.innermost,
-                &mut self.hidden,
-                &mut self.guesses,
-                word,
-                chain,
-            ),
+        enter_guessed(
+            &mut self.innermost,
+            &mut self.hidden,
+            &mut self.guesses,
+            word,
+            chain,
+        )
+    }
+
+    /// One more name in scope, which a type binds. No node is noted while it is in scope, so it needs no chain.
+    pub fn bind_in_type(&mut self, word: &'t Text) -> Result<(), NoMemory>
+        ensures { OnOk result (self.new ≡ with_names self.old (word.now ∷ self.old.names)) }
+    {
+        self.bind_loose(word)?;
+        Ok(())
+    }
+
+    /// One more name in scope, with no chain. Gives back whether a name in scope was spelled so. There is no room for 2 ^ 32
+    /// names, and so many don't come.
+    fn bind_loose(&mut self, word: &'t Text) -> Result<bool, NoMemory>
+        ensures names { OnOk result (self.new ≡ with_names self.old (word.now ∷ self.old.names)) }
+        ensures hid { IfOk result (λ hid. hid ≡ is_some (number_of self.old.names word.now)) }
+    {
+        if self.hidden.len() >= 4_294_967_295 {
+            return Err(AllocError);
         }
+        let hides = enter_guessed(
+            &mut self.innermost,
+            &mut self.hidden,
+            &mut self.guesses,
+            word,
+            0,
+        )?;
+        self.loose += 1;
+        Ok(hides)
     }
 
     /// One more name in scope, whose spelling is most often a new one.
@@ -263,6 +315,9 @@ impl<'t> Names<'t> {
         ensures names { OnOk result (self.new ≡ with_names self.old (word.now ∷ self.old.names)) }
         ensures hid { IfOk result (λ hid. hid ≡ is_some (number_of self.old.names word.now)) }
     {
+        if self.loose > 0 {
+            return self.bind_loose(word);
+        }
         if self.hidden.len() >= 4_294_967_295 {
             return Err(AllocError);
         }
@@ -282,7 +337,10 @@ impl<'t> Names<'t> {
         requires { 0 < length self.old.names }
         ensures { self.new ≡ with_names self.old (outer_names self.old.names) }
     {
-        leave(&mut self.innermost, &mut self.hidden)
+        leave(&mut self.innermost, &mut self.hidden);
+        if self.loose > 0 {
+            self.loose -= 1;
+        }
     }
 
     /// The innermost names go out of scope, up to so many.
@@ -294,11 +352,15 @@ impl<'t> Names<'t> {
         }
     }
 
-    /// The names in scope are those at one more node.
+    /// The names in scope are those at one more node. There is no node where a name of a type is in scope, so none is noted
+    /// there: such a name has no chain.
     #[inline(always)]
     pub fn note(&mut self) -> Result<(), NoMemory>
         ensures { OnOk result (self.new ≡ noting self.old) }
     {
+        if self.loose > 0 {
+            return Err(AllocError);
+        }
         let chain = top_chain(&self.hidden);
         self.trail.note(chain)
     }

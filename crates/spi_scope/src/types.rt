@@ -3,8 +3,8 @@
 ghost use Rattle.std.specs.Prelude.{◌≡◌, ◌+◌, ◌≤◌, ◌∷◌, map, IfOk, OnOk};
 ghost use Rattle.spi_tree.specs.Trees.{key, fields_of_list, nowhere};
 ghost use Rattle.spi_tree.specs.Views.{msg_of, atom_of, ty_of, field_of, last_of};
-ghost use Rattle.spi_term.specs.Term.{message_size, pair_ty, nonce};
-ghost use Rattle.spi_term.specs.Spelling.{atom_nodes, effect_nodes, ty_nodes, stopped};
+ghost use Rattle.spi_term.specs.Term.{message_size, nonce};
+ghost use Rattle.spi_term.specs.Spelling.{atom_nodes, effect_nodes, ty_nodes};
 ghost use Rattle.spi_term.specs.View.{message, atom, ty};
 ghost use Rattle.spi_scope.specs.Scope.{type_of};
 ghost use Rattle.spi_scope.specs.Meaning.{message_in, atom_in, effect_in, type_in, fields_in, last_in, behind, nested_types, known};
@@ -15,11 +15,13 @@ ghost use Rattle.spi_scope.specs.Table.{with_names};
 ghost use Rattle.spi_scope.specs.Forms.{type_form, tuple_ty_form, sum_form};
 
 use crate::fault::ScopeFault;
-use crate::messages::{boxed, read_message};
+use crate::messages::read_message;
 use crate::scope::Scope;
-use spi_term::{Atom, Effect, Msg, Ty};
+use crate::small;
+use crate::small::{keep, room_for};
+use spi_term::{Atom, Msg, Ty};
 use spi_text::{Span, Text};
-use spi_tree::{Last, SAtom, SField, SMsg, STy, SWord};
+use spi_tree::{Last, SAtom, SField, SMsg, STy, place_to};
 use std::alloc::{AllocError, Global};
 
 /// Where a message stands.
@@ -27,7 +29,8 @@ pub fn message_place(m: &SMsg) -> Span
     ensures { result ≡ msg_span (msg_of m.now) }
 {
     match m {
-        SMsg::Name { name } => name.span,
+        SMsg::Name { to, word } => place_to(*to, word),
+        SMsg::Placed { name } => name.span,
         SMsg::Unit { span } => *span,
         SMsg::Tuple { span, .. } => *span,
         SMsg::Inl { span, .. } => *span,
@@ -86,7 +89,8 @@ fn read_atom(alloc: Global, scope: &Scope, base: u32, a: &SAtom) -> Result<(Atom
     }
 }
 
-/// The atoms of an effect, with their nodes counted on.
+/// The atoms of an effect, with their nodes counted on. Where there are more than 1,000 nodes only the first atoms are
+/// kept.
 fn read_atoms(
     alloc: Global,
     scope: &Scope,
@@ -94,19 +98,16 @@ fn read_atoms(
     spent: u64,
     es: &[SAtom],
 ) -> Result<(Vec<Atom>, u64), ScopeFault>
-    ensures gives { GivesMeant (λ x. map atom x.0.items) result
-        (run (atoms_points scope.now.held.names (map atom_of es.now)) scope.now.count) scope.now.count
+    ensures { CountsOn (λ v. map atom v.items) effect_nodes result
+        (run (atoms_points scope.now.held.names (map atom_of es.now)) scope.now.count) scope.now.count spent
         (effect_in base scope.now.held.names (map atom_of es.now)) }
-    ensures nodes { IfOk result
-        (λ x. x.1 ≡ stopped
-        (spent + effect_nodes (effect_in base scope.now.held.names (map atom_of es.now)))) }
 {
-    let mut read = Vec::new(alloc);
+    let mut read = room_for(alloc, es.len())?;
     let mut total = spent;
     for a in es {
         let (atom, count) = read_atom(alloc, scope, base, a)?;
         total = total.saturating_add(count + 1);
-        read.push(atom)?;
+        keep(total, &mut read, atom)?;
     }
     Ok((read, total))
 }
@@ -124,7 +125,7 @@ fn read_nonce(
         (nonce (effect_in base scope.now.held.names (map atom_of es.now))) }
 {
     let (atoms, total) = read_atoms(alloc, scope, base, spent.saturating_add(1), es)?;
-    Ok((Ty::Nonce(Effect { atoms }), total))
+    Ok((small::nonce(total, atoms), total))
 }
 
 /// The type of an abbreviation, which is copied only where it fits.
@@ -132,16 +133,18 @@ fn read_abbreviation(
     alloc: Global,
     scope: &Scope,
     spent: u64,
-    word: &SWord,
+    span: Span,
+    word: &Text,
 ) -> Result<(Ty, u64), ScopeFault>
     ensures { CountsOn ty ty_nodes result
-        (run (one (uses_type (abbreviations scope.now.types) word.now)) scope.now.count) scope.now.count spent
-        (known (type_of (abbreviations scope.now.types) word.now.word)) }
+        (run (one (uses_type (abbreviations scope.now.types) (record { word = word.now; span = span })))
+        scope.now.count) scope.now.count spent
+        (known (type_of (abbreviations scope.now.types) word.now)) }
 {
-    let text = word.word.as_str();
+    let text = word.as_str();
     match scope.types.get(&text) {
         None => Err(ScopeFault::UnknownType {
-            span: word.span,
+            span,
             word: Text::of(alloc, text)?,
         }),
         Some(abbr) => {
@@ -203,8 +206,11 @@ pub fn read_type<'t>(
         STy::Tuple { .. } => read_tuple(alloc, scope, base, spent, t),
         STy::Sum { .. } => read_sum(alloc, scope, base, spent, t),
         STy::Key { part, .. } => read_key(alloc, scope, base, spent, part),
-        STy::Nonce { effect, .. } => read_nonce(alloc, scope, base, spent, effect),
-        STy::Abbr { name } => read_abbreviation(alloc, scope, spent, name),
+        STy::Nonce { effect, .. } => read_nonce(alloc, scope, base, spent, effect.atoms),
+        STy::Abbr { to, word } => {
+            read_abbreviation(alloc, scope, spent, place_to(*to, word), word)
+        }
+        STy::Placed { name } => read_abbreviation(alloc, scope, spent, name.span, &name.word),
     }
 }
 
@@ -234,8 +240,8 @@ fn read_tuple<'t>(
                 spent.saturating_add(1),
                 &parts.first,
             )?;
-            scope.held.bind(&parts.name.word)?;
-            let (fields, total) = read_fields(alloc, scope, base, total, &parts.more)?;
+            scope.held.bind_in_type(&parts.name.word)?;
+            let (fields, total) = read_fields(alloc, scope, base, total, parts.more)?;
             let (tail, total) = read_last(alloc, scope, base, total, &parts.last)?;
             scope.held.cut(len);
             let ty = nest_types(alloc, total, head, fields, tail)?;
@@ -262,15 +268,16 @@ fn read_sum<'t>(
     ensures scope { OnOk result (scope.new ≡ scope.old) }
 {
     match t {
-        STy::Sum { left, right, .. } => {
+        STy::Sum { parts, .. } => {
+            let left = &parts.left;
             let (left, total) = read_type(alloc, scope, base, spent.saturating_add(1), left)?;
-            let (right, total) = read_type(alloc, scope, base, total, right)?;
-            let whole = Ty::summed(alloc, left, right)?;
+            let (right, total) = read_type(alloc, scope, base, total, &parts.right)?;
+            let whole = small::summed(alloc, total, left, right)?;
             Ok((whole, total))
         }
         STy::Tuple { .. } => unreachable!(),
         STy::Un { .. } | STy::Unit { .. } | STy::Key { .. } => unreachable!(),
-        STy::Nonce { .. } | STy::Abbr { .. } => unreachable!(),
+        STy::Nonce { .. } | STy::Abbr { .. } | STy::Placed { .. } => unreachable!(),
     }
 }
 
@@ -290,9 +297,9 @@ fn read_key<'t>(
         (key nowhere (ty_of part.entry.now))) }
     ensures scope { OnOk result (scope.new ≡ scope.old) }
 {
-    let part = read_type(alloc, scope, base, spent.saturating_add(1), part);
-    let (part, total) = boxed(alloc, part)?;
-    Ok((Ty::Key(part), total))
+    let (part, total) = read_type(alloc, scope, base, spent.saturating_add(1), part)?;
+    let whole = small::key(alloc, total, part)?;
+    Ok((whole, total))
 }
 
 /// The components of a tuple type between the first and the last. Their names stay in scope.
@@ -315,13 +322,13 @@ fn read_fields<'t>(
               (behind scope.old.held.names (fields_of_list (map field_of fs.entry.now)));
         }) }
 {
-    let mut read = Vec::new(alloc);
+    let mut read = room_for(alloc, fs.len())?;
     let mut total = spent;
     for f in fs {
         let (ty, so_far) = read_type(alloc, scope, base, total.saturating_add(1), &f.ty)?;
         total = so_far;
-        read.push(ty)?;
-        scope.held.bind(&f.name.word)?;
+        keep(total, &mut read, ty)?;
+        scope.held.bind_in_type(&f.name.word)?;
     }
     Ok((read, total))
 }

@@ -1,13 +1,14 @@
 -- What a declared tree is as a tree without places in memory.
-use Rattle.std.specs.Prelude.{List, [], ◌∷◌, map, Option, Some, None}
+use Rattle.std.specs.Prelude.{ℕ, ◌-◌, List, length, map, Option, Some, None}
 use Rattle.std.specs.Global.{Vec}
+use denote.Ref.{Bor}
 use Rattle.spi_text.specs.declared.lines.Span.{Span}
-use Rattle.spi_tree.specs.declared.tree.More.{More, Row_of-SMsg, end_of-SMsg, more_of-SMsg, items-the_row-SMsg}
-use Rattle.spi_tree.specs.declared.tree.More.TheVariants as smore
-use Rattle.spi_tree.specs.declared.tree.SMsg.{SMsg}
+use Rattle.spi_tree.specs.declared.tree.SWord.{SWord}
+use Rattle.spi_tree.specs.declared.tree.SMsg.{SMsg, Row_of-SMsg, end_of-SMsg, more_of-SMsg}
 use Rattle.spi_tree.specs.declared.tree.SMsg.TheVariants as smsg
 use Rattle.spi_tree.specs.declared.tree.SAtom.{SAtom}
 use Rattle.spi_tree.specs.declared.tree.SAtom.TheVariants as satom
+use Rattle.spi_tree.specs.declared.tree.SEffect.{SEffect}
 use Rattle.spi_tree.specs.declared.tree.STy.{STy}
 use Rattle.spi_tree.specs.declared.tree.TyParts.{TyParts, TyParts', Row_of-SField, end_of-SField, more_of-SField}
 use Rattle.spi_tree.specs.declared.tree.STy.TheVariants as sty
@@ -24,31 +25,25 @@ use Rattle.spi_tree.specs.declared.tree.SDeriv.{SDeriv, SDeriv', Row_of-SDeriv, 
 use Rattle.spi_tree.specs.declared.tree.Tree.{Tree}
 use Rattle.spi_tree.specs.Trees as t
 
+-- a word that ends at this offset, with as many bytes before it as it has
+abbrev pub word_to : ℕ → List ℕ → SWord
+word_to to word = record { word = word; span = record { from = to - length word; to = to } }
+
 abbrev mutual
   pub msg_of : SMsg → t.Msg
-  msg_of (smsg.Name w) = t.name w.span w
+  msg_of (smsg.Name to w) = t.name (word_to to w).span (word_to to w)
+  msg_of (smsg.Placed w) = t.name w.now.span w.now
   msg_of (smsg.Unit s) = t.unit s
-  msg_of (smsg.Tuple' p a b more s) = t.tuple s (msg_of a) (msg_of b) (msgs_of_more more)
+  msg_of (smsg.Tuple' p a b q shape row s) = t.tuple s (msg_of a) (msg_of b) (msgs_of_row row)
   msg_of (smsg.Inl' p a s) = t.inl s (msg_of a)
   msg_of (smsg.Inr' p a s) = t.inr s (msg_of a)
-  msg_of (smsg.Enc' p a q b s) = t.enc s (msg_of a) (msg_of b)
+  msg_of (smsg.Enc' p a b s) = t.enc s (msg_of a) (msg_of b)
   msg_of (smsg.Hash' p a s) = t.hash s (msg_of a)
   msg_of (smsg.Num n s) = t.num s n
-
-  pub msgs_of_more : More → t.Msgs
-  msgs_of_more smore.None = t.no_msgs
-  msgs_of_more (smore.One m) = t.more_msgs (msg_of m) t.no_msgs
-  msgs_of_more (smore.Several' shape row) = msgs_of_row row
 
   pub msgs_of_row : {n : _} → Row_of-SMsg n → t.Msgs
   msgs_of_row end_of-SMsg = t.no_msgs
   msgs_of_row (more_of-SMsg m rest) = t.more_msgs (msg_of m) (msgs_of_row rest)
-
--- the components of a tuple behind the first two
-abbrev pub more_items : More → List SMsg
-more_items smore.None = []
-more_items (smore.One m) = m ∷ []
-more_items (smore.Several' shape row) = items-the_row-SMsg _ row
 
 abbrev pub atom_of : SAtom → t.Atom
 atom_of (satom.End m s) = t.ends s (msg_of m)
@@ -60,13 +55,14 @@ abbrev mutual
   ty_of (sty.Un s) = t.un s
   ty_of (sty.Unit s) = t.unit_ty s
   ty_of (sty.Tuple' p parts s) = tuple_of s parts
-  ty_of (sty.Sum' p a q b s) = t.sum s (ty_of a) (ty_of b)
+  ty_of (sty.Sum' p a b s) = t.sum s (ty_of a) (ty_of b)
   ty_of (sty.Key' p a s) = t.key s (ty_of a)
-  ty_of (sty.Nonce es s) = t.nonce s (map atom_of es.items)
-  ty_of (sty.Abbr w) = t.abbr w.span w
+  ty_of (sty.Nonce es s) = t.nonce s (map atom_of es.now.atoms.now)
+  ty_of (sty.Abbr to w) = t.abbr (word_to to w).span (word_to to w)
+  ty_of (sty.Placed w) = t.abbr w.now.span w.now
 
   pub tuple_of : Span → TyParts → t.Ty
-  tuple_of s (TyParts' w a shape more last) = t.tuple_ty s w (ty_of a) (fields_of_row more) (last_of last)
+  tuple_of s (TyParts' w a p shape more last) = t.tuple_ty s w (ty_of a) (fields_of_row more) (last_of last)
 
   pub fields_of_row : {n : _} → Row_of-SField n → t.Fields
   fields_of_row end_of-SField = t.no_fields
@@ -74,7 +70,7 @@ abbrev mutual
 
   pub last_of : Last → t.Last
   last_of (slast.Bare a) = t.bare (ty_of a)
-  last_of (slast.Named w a) = t.named w (ty_of a)
+  last_of (slast.Named w a) = t.named w.now (ty_of a)
 
 abbrev pub field_of : SField → t.Field
 field_of f = record { name = f.name; ty = ty_of f.ty }
@@ -107,9 +103,9 @@ abbrev pub step_of : SStep → t.Step
 step_of (sstep.Act i s) = t.act s i
 step_of (sstep.Talk i j s) = t.talk s i j
 
-abbrev pub tree_effect : Option (Vec SAtom) → Option (List t.Atom)
+abbrev pub tree_effect : Option (Bor SEffect) → Option (List t.Atom)
 tree_effect None = None
-tree_effect (Some es) = Some (map atom_of es.items)
+tree_effect (Some es) = Some (map atom_of es.now.atoms.now)
 
 abbrev mutual
   pub deriv_of : SDeriv → t.Deriv

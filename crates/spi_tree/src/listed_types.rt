@@ -1,11 +1,11 @@
 //! The tokens of messages and types.
 
 ghost use Rattle.std.specs.Prelude.{◌≡◌, ◌++◌, map, OnOk};
-ghost use Rattle.spi_tree.specs.Views.{msg_of, msgs_of_more, atom_of, ty_of, last_of, field_of};
-ghost use Rattle.spi_tree.specs.Listed.{joined, msg_list, msgs_list, more_list, atom_list, more_atom_list, effect_list, ty_list, field_list, last_list, named_list};
+ghost use Rattle.spi_tree.specs.Views.{msg_of, atom_of, ty_of, last_of, field_of};
+ghost use Rattle.spi_tree.specs.Listed.{joined, msg_list, more_list, atom_list, more_atom_list, effect_list, ty_list, field_list, last_list, named_list};
 
-use crate::list::{put_mark, put_numbered, put_parens, put_reserved, put_word};
-use crate::{Last, More, NoMemory, SAtom, SField, SMsg, STy, SWord};
+use crate::list::{put_literal, put_mark, put_numbered, put_parens, put_reserved, put_word};
+use crate::{Last, NoMemory, SAtom, SField, SMsg, STy, SWord};
 use spi_lex::{Kind, Mark, Reserved};
 use std::alloc::Global;
 
@@ -15,14 +15,15 @@ pub fn put_message(alloc: Global, out: &mut Vec<Kind>, message: &SMsg) -> Result
     ensures { OnOk result (out.new.items ≡ out.old.items ++ msg_list (msg_of message.now)) }
 {
     match message {
-        SMsg::Name { name } => put_word(alloc, out, name),
+        SMsg::Name { word, .. } => put_literal(alloc, out, word.as_str()),
+        SMsg::Placed { name } => put_word(alloc, out, name),
         SMsg::Unit { .. } => put_parens(out),
         SMsg::Tuple { parts, .. } => {
             put_mark(out, Mark::ParenOpen)?;
             put_message(alloc, out, &parts.first)?;
             put_mark(out, Mark::Comma)?;
             put_message(alloc, out, &parts.second)?;
-            put_more(alloc, out, &parts.more)?;
+            put_messages(alloc, out, parts.more)?;
             put_mark(out, Mark::ParenClose)?;
             Ok(())
         }
@@ -34,11 +35,11 @@ pub fn put_message(alloc: Global, out: &mut Vec<Kind>, message: &SMsg) -> Result
             put_reserved(out, Reserved::Inr)?;
             put_message(alloc, out, part)
         }
-        SMsg::Enc { body, key, .. } => {
+        SMsg::Enc { parts, .. } => {
             put_mark(out, Mark::BraceOpen)?;
-            put_message(alloc, out, body)?;
+            put_message(alloc, out, &parts.body)?;
             put_mark(out, Mark::BraceClose)?;
-            put_message(alloc, out, key)
+            put_message(alloc, out, &parts.key)
         }
         SMsg::Hash { part, .. } => {
             put_reserved(out, Reserved::Hash)?;
@@ -47,21 +48,6 @@ pub fn put_message(alloc: Global, out: &mut Vec<Kind>, message: &SMsg) -> Result
             put_mark(out, Mark::ParenClose)
         }
         SMsg::Num { number, .. } => put_numbered(out, *number),
-    }
-}
-
-/// Puts the tokens of a tuple's components behind the first two.
-#[cycle(messages)]
-fn put_more(alloc: Global, out: &mut Vec<Kind>, more: &More) -> Result<(), NoMemory>
-    ensures { OnOk result (out.new.items ≡ out.old.items ++ msgs_list (msgs_of_more more.now)) }
-{
-    match more {
-        More::None => Ok(()),
-        More::One(part) => {
-            put_mark(out, Mark::Comma)?;
-            put_message(alloc, out, part)
-        }
-        More::Several(parts) => put_messages(alloc, out, parts),
     }
 }
 
@@ -133,16 +119,16 @@ pub fn put_type(alloc: Global, out: &mut Vec<Kind>, ty: &STy) -> Result<(), NoMe
             put_mark(out, Mark::Colon)?;
             put_type(alloc, out, &parts.first)?;
             put_mark(out, Mark::Comma)?;
-            put_fields(alloc, out, &parts.more)?;
+            put_fields(alloc, out, parts.more)?;
             put_last(alloc, out, &parts.last)?;
             put_mark(out, Mark::ParenClose)?;
             Ok(())
         }
-        STy::Sum { left, right, .. } => {
+        STy::Sum { parts, .. } => {
             put_mark(out, Mark::ParenOpen)?;
-            put_type(alloc, out, left)?;
+            put_type(alloc, out, &parts.left)?;
             put_mark(out, Mark::Plus)?;
-            put_type(alloc, out, right)?;
+            put_type(alloc, out, &parts.right)?;
             put_mark(out, Mark::ParenClose)
         }
         STy::Key { part, .. } => {
@@ -153,9 +139,10 @@ pub fn put_type(alloc: Global, out: &mut Vec<Kind>, ty: &STy) -> Result<(), NoMe
         }
         STy::Nonce { effect, .. } => {
             put_reserved(out, Reserved::Nonce)?;
-            put_effect(alloc, out, effect)
+            put_effect(alloc, out, effect.atoms)
         }
-        STy::Abbr { name } => put_word(alloc, out, name),
+        STy::Abbr { word, .. } => put_literal(alloc, out, word.as_str()),
+        STy::Placed { name } => put_word(alloc, out, name),
     }
 }
 

@@ -6,7 +6,7 @@ ghost use Rattle.spi_tree.specs.Listed.{joined, more_word_list, decl_list, step_
 use crate::list::{put_literal, put_mark, put_number, put_reserved, put_word};
 use crate::listed_processes::put_process;
 use crate::listed_types::{put_effect, put_type};
-use crate::{Decl, NoMemory, SAtom, SDeriv, SProc, SStep, STy, SWord, Tree};
+use crate::{Decl, NoMemory, SDeriv, SEffect, SProc, SStep, STy, SWord, Tree};
 use spi_lex::{Kind, Mark, Reserved};
 use std::alloc::Global;
 
@@ -79,13 +79,13 @@ fn put_steps(alloc: Global, out: &mut Vec<Kind>, steps: &[SStep]) -> Result<(), 
 fn put_written(
     alloc: Global,
     out: &mut Vec<Kind>,
-    effect: &Option<Vec<SAtom>>,
+    effect: &Option<&SEffect>,
 ) -> Result<(), NoMemory>
     ensures { OnOk result (out.new.items ≡ out.old.items ++ written_list (tree_effect effect.now)) }
 {
     match effect {
         None => Ok(()),
-        Some(atoms) => put_effect(alloc, out, atoms),
+        Some(effect) => put_effect(alloc, out, effect.atoms),
     }
 }
 

@@ -9,193 +9,122 @@ pub struct SWord {
 
 /// A message. `Num` stands for a name in the effects of a derivation, by the name's number.
 #[cycle(messages)]
-pub enum SMsg {
-    /// `x`, which stands where its word does
-    Name {
-        name: SWord,
-    },
+pub enum SMsg<'b> {
+    /// `x`, which ends at this offset and has as many bytes before it as its word
+    Name { to: u32, word: Text },
+    /// `x`, which stands anywhere
+    Placed { name: &'b SWord },
     /// `()`
-    Unit {
-        span: Span,
-    },
+    Unit { span: Span },
     /// `(M, N, ..)`, of two messages or more
-    Tuple {
-        parts: Box<MsgParts>,
-        span: Span,
-    },
+    Tuple { parts: &'b MsgParts<'b>, span: Span },
     /// `inl M`
-    Inl {
-        part: Box<SMsg>,
-        span: Span,
-    },
+    Inl { part: &'b SMsg<'b>, span: Span },
     /// `inr M`
-    Inr {
-        part: Box<SMsg>,
-        span: Span,
-    },
+    Inr { part: &'b SMsg<'b>, span: Span },
     /// `{M}N`
-    Enc {
-        body: Box<SMsg>,
-        key: Box<SMsg>,
-        span: Span,
-    },
+    Enc { parts: &'b EncParts<'b>, span: Span },
     /// `hash(M)`, in version 2
-    Hash {
-        part: Box<SMsg>,
-        span: Span,
-    },
+    Hash { part: &'b SMsg<'b>, span: Span },
     /// `#n`
-    Num {
-        number: u32,
-        span: Span,
-    },
+    Num { number: u32, span: Span },
 }
 
-/// The components of a tuple: the first two, and those behind them.
-#[cycle(messages)]
-pub struct MsgParts {
-    pub first: SMsg,
-    pub second: SMsg,
-    pub more: More,
-}
-
-/// The components of a tuple behind the first two. Where there is one, it lies in the value itself.
-#[cycle(messages)]
-pub enum More {
-    None,
-    One(SMsg),
-    Several(Vec<SMsg>),
-}
-
-impl Drop for More {
-    #[cycle(messages)]
+impl<'b> Drop for SMsg<'b> {
     fn drop(self) {
         match self {
-            More::None => {}
-            More::One(_) => {}
-            More::Several(_) => {}
-        }
-    }
-}
-
-impl Drop for MsgParts {
-    #[cycle(messages)]
-    fn drop(self) {
-        let MsgParts {
-            first: _,
-            second: _,
-            more: _,
-        } = self;
-    }
-}
-
-impl Drop for SMsg {
-    #[cycle(messages)]
-    fn drop(self) {
-        match self {
-            SMsg::Name { name: _ } => {}
+            SMsg::Name { to: _, word: _ } => {}
+            SMsg::Placed { name: _ } => {}
             SMsg::Unit { span: _ } => {}
             SMsg::Tuple { parts: _, span: _ } => {}
             SMsg::Inl { part: _, span: _ } => {}
             SMsg::Inr { part: _, span: _ } => {}
-            SMsg::Enc {
-                body: _,
-                key: _,
-                span: _,
-            } => {}
+            SMsg::Enc { parts: _, span: _ } => {}
             SMsg::Hash { part: _, span: _ } => {}
             SMsg::Num { number: _, span: _ } => {}
         }
     }
 }
 
+/// The components of a tuple: the first two, and those behind them.
+#[cycle(messages)]
+#[derive(Drop)]
+pub struct MsgParts<'b> {
+    pub first: SMsg<'b>,
+    pub second: SMsg<'b>,
+    pub more: &'b [SMsg<'b>],
+}
+
+/// What a ciphertext holds, and its key.
+#[cycle(messages)]
+#[derive(Drop)]
+pub struct EncParts<'b> {
+    pub body: SMsg<'b>,
+    pub key: SMsg<'b>,
+}
+
 /// A type.
 #[cycle(types)]
-pub enum STy {
+pub enum STy<'b> {
     /// `Un`
-    Un {
-        span: Span,
-    },
+    Un { span: Span },
     /// `()`
-    Unit {
-        span: Span,
-    },
+    Unit { span: Span },
     /// `(x: T, y: U, .., V)`, of two types or more
-    Tuple {
-        parts: Box<TyParts>,
-        span: Span,
-    },
+    Tuple { parts: &'b TyParts<'b>, span: Span },
     /// `(T + U)`
-    Sum {
-        left: Box<STy>,
-        right: Box<STy>,
-        span: Span,
-    },
+    Sum { parts: &'b SumParts<'b>, span: Span },
     /// `Key(T)`
-    Key {
-        part: Box<STy>,
-        span: Span,
-    },
+    Key { part: &'b STy<'b>, span: Span },
     /// `Nonce [a, b, ..]`
-    Nonce {
-        effect: Vec<SAtom>,
-        span: Span,
-    },
-    /// the name of a declared type, which stands where its word does
-    Abbr {
-        name: SWord,
-    },
+    Nonce { effect: &'b SEffect<'b>, span: Span },
+    /// the name of a declared type, which ends at this offset and has as many bytes before it as its word
+    Abbr { to: u32, word: Text },
+    /// the name of a declared type, which stands anywhere
+    Placed { name: &'b SWord },
 }
 
-/// The parts of a tuple type: the first with its name, those between, and the last.
-#[cycle(types)]
-pub struct TyParts {
-    pub name: SWord,
-    pub first: STy,
-    pub more: Vec<SField>,
-    pub last: Last,
-}
-
-impl Drop for TyParts {
-    #[cycle(types)]
-    fn drop(self) {
-        let TyParts {
-            name: _,
-            first: _,
-            more: _,
-            last: _,
-        } = self;
-    }
-}
-
-impl Drop for STy {
-    #[cycle(types)]
+impl<'b> Drop for STy<'b> {
     fn drop(self) {
         match self {
             STy::Un { span: _ } => {}
             STy::Unit { span: _ } => {}
             STy::Tuple { parts: _, span: _ } => {}
-            STy::Sum {
-                left: _,
-                right: _,
-                span: _,
-            } => {}
+            STy::Sum { parts: _, span: _ } => {}
             STy::Key { part: _, span: _ } => {}
             STy::Nonce { effect: _, span: _ } => {}
-            STy::Abbr { name: _ } => {}
+            STy::Abbr { to: _, word: _ } => {}
+            STy::Placed { name: _ } => {}
         }
     }
 }
 
-/// A part of a tuple type between the first and the last: `x: T`.
+/// The parts of a tuple type: the first with its name, those between, and the last.
 #[cycle(types)]
-pub struct SField {
+#[derive(Drop)]
+pub struct TyParts<'b> {
     pub name: SWord,
-    pub ty: STy,
+    pub first: STy<'b>,
+    pub more: &'b [SField<'b>],
+    pub last: Last<'b>,
 }
 
-impl Drop for SField {
-    #[cycle(types)]
+/// The two types of a sum.
+#[cycle(types)]
+#[derive(Drop)]
+pub struct SumParts<'b> {
+    pub left: STy<'b>,
+    pub right: STy<'b>,
+}
+
+/// A part of a tuple type between the first and the last: `x: T`.
+#[cycle(types)]
+pub struct SField<'b> {
+    pub name: SWord,
+    pub ty: STy<'b>,
+}
+
+impl<'b> Drop for SField<'b> {
     fn drop(self) {
         let SField { name: _, ty: _ } = self;
     }
@@ -203,15 +132,14 @@ impl Drop for SField {
 
 /// The last part of a tuple type.
 #[cycle(types)]
-pub enum Last {
+pub enum Last<'b> {
     /// `T`
-    Bare(STy),
+    Bare(STy<'b>),
     /// `x: T`, which binds nothing
-    Named(SWord, STy),
+    Named(&'b SWord, STy<'b>),
 }
 
-impl Drop for Last {
-    #[cycle(types)]
+impl<'b> Drop for Last<'b> {
     fn drop(self) {
         match self {
             Last::Bare(_) => {}
@@ -221,16 +149,16 @@ impl Drop for Last {
 }
 
 /// An atom of an effect.
-pub enum SAtom {
+pub enum SAtom<'b> {
     /// `end M`
-    End { label: SMsg, span: Span },
+    End { label: SMsg<'b>, span: Span },
     /// `check M`
-    Check { nonce: SMsg, span: Span },
+    Check { nonce: SMsg<'b>, span: Span },
     /// `many M`, in version 2
-    Many { label: SMsg, span: Span },
+    Many { label: SMsg<'b>, span: Span },
 }
 
-impl Drop for SAtom {
+impl<'b> Drop for SAtom<'b> {
     fn drop(self) {
         match self {
             SAtom::End { label: _, span: _ } => {}
@@ -240,82 +168,88 @@ impl Drop for SAtom {
     }
 }
 
-/// A process. The parts of its form lie in a box of just their size, so that a small form takes little memory.
+/// An effect, as the type of a nonce writes it.
+#[derive(Drop)]
+pub struct SEffect<'b> {
+    pub atoms: &'b [SAtom<'b>],
+}
+
+/// A process. The parts of its form lie in a place of just their size, so that a small form takes little memory.
 #[cycle(processes)]
-pub enum SProc {
+pub enum SProc<'b> {
     /// `P | Q`
     Par {
-        parts: Box<BothParts>,
+        parts: Box<BothParts<'b>>,
         span: Span,
     },
     /// `out M N`
     Out {
-        parts: Box<OutParts>,
+        parts: Box<OutParts<'b>>,
         span: Span,
     },
     /// `out M N; P`
     OutThen {
-        parts: Box<OutThenParts>,
+        parts: Box<OutThenParts<'b>>,
         span: Span,
     },
     /// `inp M (x: T); P`
     Inp {
-        parts: Box<InpParts>,
+        parts: Box<InpParts<'b>>,
         span: Span,
     },
     /// `repeat inp M (x: T); P`
     Repeat {
-        parts: Box<InpParts>,
+        parts: Box<InpParts<'b>>,
         span: Span,
     },
     /// `split M is (x: T, y: U); P`
     Split {
-        parts: Box<SplitParts>,
+        parts: Box<SplitParts<'b>>,
         span: Span,
     },
     /// `match M is (x: T = N, y: U); P`
     Match {
-        parts: Box<MatchParts>,
+        parts: Box<MatchParts<'b>>,
         span: Span,
     },
     /// `case M is inl (x: T); P is inr (y: U); Q`
     Case {
-        parts: Box<CaseParts>,
+        parts: Box<CaseParts<'b>>,
         span: Span,
     },
     /// `decrypt M is {x: T}N; P`
     Decrypt {
-        parts: Box<DecryptParts>,
+        parts: Box<DecryptParts<'b>>,
         span: Span,
     },
     /// `check M is N; P`
     Check {
-        parts: Box<CheckParts>,
+        parts: Box<CheckParts<'b>>,
         span: Span,
     },
     /// `begin L; P`
     Begin {
-        parts: Box<EventParts>,
+        parts: Box<EventParts<'b>>,
         span: Span,
     },
     /// `end L; P`
     End {
-        parts: Box<EventParts>,
+        parts: Box<EventParts<'b>>,
         span: Span,
     },
     /// `endmany L; P`, in version 2
     EndMany {
-        parts: Box<EventParts>,
+        parts: Box<EventParts<'b>>,
         span: Span,
     },
     /// `cast M is (x: T); P`
     Cast {
-        parts: Box<CastParts>,
+        parts: Box<CastParts<'b>>,
         span: Span,
     },
     /// `new (x: T); P`
     New {
-        parts: Box<NewParts>,
+        parts: Box<NewParts<'b>>,
         span: Span,
     },
     /// `stop`
@@ -324,12 +258,12 @@ pub enum SProc {
     },
     /// `(P | Q)`
     Group {
-        parts: Box<BothParts>,
+        parts: Box<BothParts<'b>>,
         span: Span,
     },
 }
 
-impl Drop for SProc {
+impl<'b> Drop for SProc<'b> {
     #[cycle(processes)]
     fn drop(self) {
         match self {
@@ -356,12 +290,12 @@ impl Drop for SProc {
 
 /// The two processes of a composition.
 #[cycle(processes)]
-pub struct BothParts {
-    pub first: SProc,
-    pub rest: SProc,
+pub struct BothParts<'b> {
+    pub first: SProc<'b>,
+    pub rest: SProc<'b>,
 }
 
-impl Drop for BothParts {
+impl<'b> Drop for BothParts<'b> {
     #[cycle(processes)]
     fn drop(self) {
         let BothParts { first: _, rest: _ } = self;
@@ -369,12 +303,12 @@ impl Drop for BothParts {
 }
 
 /// The messages of an output with nothing behind it.
-pub struct OutParts {
-    pub channel: SMsg,
-    pub datum: SMsg,
+pub struct OutParts<'b> {
+    pub channel: SMsg<'b>,
+    pub datum: SMsg<'b>,
 }
 
-impl Drop for OutParts {
+impl<'b> Drop for OutParts<'b> {
     fn drop(self) {
         let OutParts {
             channel: _,
@@ -385,13 +319,13 @@ impl Drop for OutParts {
 
 /// The parts of an output with a process behind it.
 #[cycle(processes)]
-pub struct OutThenParts {
-    pub channel: SMsg,
-    pub datum: SMsg,
-    pub then: SProc,
+pub struct OutThenParts<'b> {
+    pub channel: SMsg<'b>,
+    pub datum: SMsg<'b>,
+    pub then: SProc<'b>,
 }
 
-impl Drop for OutThenParts {
+impl<'b> Drop for OutThenParts<'b> {
     #[cycle(processes)]
     fn drop(self) {
         let OutThenParts {
@@ -404,14 +338,14 @@ impl Drop for OutThenParts {
 
 /// The parts of an input, repeated or not.
 #[cycle(processes)]
-pub struct InpParts {
-    pub channel: SMsg,
+pub struct InpParts<'b> {
+    pub channel: SMsg<'b>,
     pub name: SWord,
-    pub ty: STy,
-    pub then: SProc,
+    pub ty: STy<'b>,
+    pub then: SProc<'b>,
 }
 
-impl Drop for InpParts {
+impl<'b> Drop for InpParts<'b> {
     #[cycle(processes)]
     fn drop(self) {
         let InpParts {
@@ -425,16 +359,16 @@ impl Drop for InpParts {
 
 /// The parts of a split.
 #[cycle(processes)]
-pub struct SplitParts {
-    pub whole: SMsg,
+pub struct SplitParts<'b> {
+    pub whole: SMsg<'b>,
     pub left: SWord,
-    pub left_ty: STy,
+    pub left_ty: STy<'b>,
     pub right: SWord,
-    pub right_ty: STy,
-    pub then: SProc,
+    pub right_ty: STy<'b>,
+    pub then: SProc<'b>,
 }
 
-impl Drop for SplitParts {
+impl<'b> Drop for SplitParts<'b> {
     #[cycle(processes)]
     fn drop(self) {
         let SplitParts {
@@ -450,17 +384,17 @@ impl Drop for SplitParts {
 
 /// The parts of a match.
 #[cycle(processes)]
-pub struct MatchParts {
-    pub whole: SMsg,
+pub struct MatchParts<'b> {
+    pub whole: SMsg<'b>,
     pub left: SWord,
-    pub left_ty: STy,
-    pub equal: SMsg,
+    pub left_ty: STy<'b>,
+    pub equal: SMsg<'b>,
     pub right: SWord,
-    pub right_ty: STy,
-    pub then: SProc,
+    pub right_ty: STy<'b>,
+    pub then: SProc<'b>,
 }
 
-impl Drop for MatchParts {
+impl<'b> Drop for MatchParts<'b> {
     #[cycle(processes)]
     fn drop(self) {
         let MatchParts {
@@ -477,17 +411,17 @@ impl Drop for MatchParts {
 
 /// The parts of a case.
 #[cycle(processes)]
-pub struct CaseParts {
-    pub whole: SMsg,
+pub struct CaseParts<'b> {
+    pub whole: SMsg<'b>,
     pub left: SWord,
-    pub left_ty: STy,
-    pub on_left: SProc,
+    pub left_ty: STy<'b>,
+    pub on_left: SProc<'b>,
     pub right: SWord,
-    pub right_ty: STy,
-    pub on_right: SProc,
+    pub right_ty: STy<'b>,
+    pub on_right: SProc<'b>,
 }
 
-impl Drop for CaseParts {
+impl<'b> Drop for CaseParts<'b> {
     #[cycle(processes)]
     fn drop(self) {
         let CaseParts {
@@ -504,15 +438,15 @@ impl Drop for CaseParts {
 
 /// The parts of a decryption.
 #[cycle(processes)]
-pub struct DecryptParts {
-    pub whole: SMsg,
+pub struct DecryptParts<'b> {
+    pub whole: SMsg<'b>,
     pub name: SWord,
-    pub ty: STy,
-    pub key: SMsg,
-    pub then: SProc,
+    pub ty: STy<'b>,
+    pub key: SMsg<'b>,
+    pub then: SProc<'b>,
 }
 
-impl Drop for DecryptParts {
+impl<'b> Drop for DecryptParts<'b> {
     #[cycle(processes)]
     fn drop(self) {
         let DecryptParts {
@@ -527,13 +461,13 @@ impl Drop for DecryptParts {
 
 /// The parts of a check of a nonce.
 #[cycle(processes)]
-pub struct CheckParts {
-    pub whole: SMsg,
-    pub nonce: SMsg,
-    pub then: SProc,
+pub struct CheckParts<'b> {
+    pub whole: SMsg<'b>,
+    pub nonce: SMsg<'b>,
+    pub then: SProc<'b>,
 }
 
-impl Drop for CheckParts {
+impl<'b> Drop for CheckParts<'b> {
     #[cycle(processes)]
     fn drop(self) {
         let CheckParts {
@@ -546,12 +480,12 @@ impl Drop for CheckParts {
 
 /// The label of an event, and what goes on behind it.
 #[cycle(processes)]
-pub struct EventParts {
-    pub label: SMsg,
-    pub then: SProc,
+pub struct EventParts<'b> {
+    pub label: SMsg<'b>,
+    pub then: SProc<'b>,
 }
 
-impl Drop for EventParts {
+impl<'b> Drop for EventParts<'b> {
     #[cycle(processes)]
     fn drop(self) {
         let EventParts { label: _, then: _ } = self;
@@ -560,14 +494,14 @@ impl Drop for EventParts {
 
 /// The parts of a cast.
 #[cycle(processes)]
-pub struct CastParts {
-    pub whole: SMsg,
+pub struct CastParts<'b> {
+    pub whole: SMsg<'b>,
     pub name: SWord,
-    pub ty: STy,
-    pub then: SProc,
+    pub ty: STy<'b>,
+    pub then: SProc<'b>,
 }
 
-impl Drop for CastParts {
+impl<'b> Drop for CastParts<'b> {
     #[cycle(processes)]
     fn drop(self) {
         let CastParts {
@@ -581,13 +515,13 @@ impl Drop for CastParts {
 
 /// The parts of a new name.
 #[cycle(processes)]
-pub struct NewParts {
+pub struct NewParts<'b> {
     pub name: SWord,
-    pub ty: STy,
-    pub then: SProc,
+    pub ty: STy<'b>,
+    pub then: SProc<'b>,
 }
 
-impl Drop for NewParts {
+impl<'b> Drop for NewParts<'b> {
     #[cycle(processes)]
     fn drop(self) {
         let NewParts {
@@ -599,7 +533,7 @@ impl Drop for NewParts {
 }
 
 /// A declaration.
-pub enum Decl {
+pub enum Decl<'b> {
     /// `free a, b, ..;`, of one name or more
     Free {
         first: SWord,
@@ -609,12 +543,12 @@ pub enum Decl {
     /// `type A = T;`
     Abbr {
         name: SWord,
-        ty: STy,
+        ty: STy<'b>,
         span: Span,
     },
 }
 
-impl Drop for Decl {
+impl<'b> Drop for Decl<'b> {
     fn drop(self) {
         match self {
             Decl::Free {
@@ -641,14 +575,14 @@ pub enum SStep {
 }
 
 /// A use of a rule, with the effect that `ProcSub` writes, and the uses that prove its premises.
-pub struct SDeriv {
+pub struct SDeriv<'b> {
     pub rule: SWord,
-    pub effect: Option<Vec<SAtom>>,
-    pub premises: Vec<SDeriv>,
+    pub effect: Option<&'b SEffect<'b>>,
+    pub premises: Vec<SDeriv<'b>>,
     pub span: Span,
 }
 
-impl Drop for SDeriv {
+impl<'b> Drop for SDeriv<'b> {
     fn drop(self) {
         let SDeriv {
             rule: _,
@@ -660,18 +594,18 @@ impl Drop for SDeriv {
 }
 
 /// A file.
-pub struct Tree {
+pub struct Tree<'b> {
     /// 1, or 2 where the file begins with `version 2;`
     pub version: u32,
-    pub decls: Vec<Decl>,
-    pub process: SProc,
-    pub opponent: Option<SProc>,
+    pub decls: Vec<Decl<'b>>,
+    pub process: SProc<'b>,
+    pub opponent: Option<SProc<'b>>,
     pub schedule: Option<Vec<SStep>>,
-    pub derivation: Option<SDeriv>,
+    pub derivation: Option<SDeriv<'b>>,
     pub span: Span,
 }
 
-impl Drop for Tree {
+impl<'b> Drop for Tree<'b> {
     fn drop(self) {
         let Tree {
             version: _,

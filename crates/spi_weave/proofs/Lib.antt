@@ -1,4 +1,3 @@
-pub mod Copied
 pub mod Forming
 pub mod Formed
 pub mod Starting

@@ -13,35 +13,36 @@ use spi_narrate::Prefix;
 use spi_text::Span;
 use spi_tree::{
     CastParts, CheckParts, DecryptParts, EventParts, InpParts, MatchParts, NewParts, OutThenParts,
-    SMsg, SProc, STy, SWord, SplitParts,
+    Room, SMsg, SProc, STy, SWord, SplitParts, named,
 };
 use std::alloc::Global;
 
 /// A process, or memory ran out.
-type Made = Result<SProc, NoMemory>;
+type Made<'b> = Result<SProc<'b>, NoMemory>;
 
 /// A form that is to be made: the process that follows it, and where it stands.
 #[derive(Drop)]
-pub struct Form {
+pub struct Form<'b> {
     alloc: Global,
-    then: SProc,
+    then: SProc<'b>,
     span: Span,
 }
 
-impl Form {
+impl<'b> Form<'b> {
     /// A form at `span`, before the process that follows.
-    pub fn before(alloc: Global, then: SProc, span: Span) -> Form
-        ensures follows { result.then ≡ then }
+    pub fn before(alloc: Global, then: SProc<'b>, span: Span) -> Form<'b>
+        ensures follows { result.then ≡ then.entry }
         ensures place { result.span ≡ span }
     {
         Form { alloc, then, span }
     }
 
-    fn split(self, whole: &SMsg, left: &Named, right: &Named) -> Made
+    fn split(self, whole: &SMsg<'b>, left: &Named<'b>, right: &Named<'b>) -> Made<'b>
         ensures { IfOk result
             (λ p. proc_of p
-            ≡ t.split self.span (msg_of whole.now) left.now.name (ty_of left.now.ty) right.now.name
-            (ty_of right.now.ty) (proc_of self.then)) }
+            ≡ t.split self.entry.span (msg_of whole.now) left.now.name (ty_of left.now.ty.value)
+            right.now.name
+            (ty_of right.now.ty.value) (proc_of self.entry.then)) }
     {
         let parts = SplitParts {
             whole: message(self.alloc, whole)?,
@@ -57,11 +58,18 @@ impl Form {
         })
     }
 
-    fn select(self, whole: &SMsg, left: &Named, equal: &SMsg, right: &Named) -> Made
+    fn select(
+        self,
+        whole: &SMsg<'b>,
+        left: &Named<'b>,
+        equal: &SMsg<'b>,
+        right: &Named<'b>,
+    ) -> Made<'b>
         ensures { IfOk result
             (λ p. proc_of p
-            ≡ t.match self.span (msg_of whole.now) left.now.name (ty_of left.now.ty) (msg_of equal.now)
-            right.now.name (ty_of right.now.ty) (proc_of self.then)) }
+            ≡ t.match self.entry.span (msg_of whole.now) left.now.name (ty_of left.now.ty.value)
+            (msg_of equal.now)
+            right.now.name (ty_of right.now.ty.value) (proc_of self.entry.then)) }
     {
         let parts = MatchParts {
             whole: message(self.alloc, whole)?,
@@ -78,11 +86,12 @@ impl Form {
         })
     }
 
-    fn decrypt(self, whole: &SMsg, bound: &Named, key: &SMsg) -> Made
+    fn decrypt(self, whole: &SMsg<'b>, bound: &Named<'b>, key: &SMsg<'b>) -> Made<'b>
         ensures { IfOk result
             (λ p. proc_of p
-            ≡ t.decrypt self.span (msg_of whole.now) bound.now.name (ty_of bound.now.ty) (msg_of key.now)
-            (proc_of self.then)) }
+            ≡ t.decrypt self.entry.span (msg_of whole.now) bound.now.name (ty_of bound.now.ty.value)
+            (msg_of key.now)
+            (proc_of self.entry.then)) }
     {
         let parts = DecryptParts {
             whole: message(self.alloc, whole)?,
@@ -97,10 +106,10 @@ impl Form {
         })
     }
 
-    fn check(self, whole: &SMsg, nonce: &SMsg) -> Made
+    fn check(self, whole: &SMsg<'b>, nonce: &SMsg<'b>) -> Made<'b>
         ensures { IfOk result
             (λ p. proc_of p
-            ≡ t.check self.span (msg_of whole.now) (msg_of nonce.now) (proc_of self.then)) }
+            ≡ t.check self.entry.span (msg_of whole.now) (msg_of nonce.now) (proc_of self.entry.then)) }
     {
         let parts = CheckParts {
             whole: message(self.alloc, whole)?,
@@ -113,11 +122,11 @@ impl Form {
         })
     }
 
-    fn cast(self, whole: &SMsg, bound: &Named) -> Made
+    fn cast(self, whole: &SMsg<'b>, bound: &Named<'b>) -> Made<'b>
         ensures { IfOk result
             (λ p. proc_of p
-            ≡ t.cast self.span (msg_of whole.now) bound.now.name (ty_of bound.now.ty)
-            (proc_of self.then)) }
+            ≡ t.cast self.entry.span (msg_of whole.now) bound.now.name (ty_of bound.now.ty.value)
+            (proc_of self.entry.then)) }
     {
         let parts = CastParts {
             whole: message(self.alloc, whole)?,
@@ -132,9 +141,9 @@ impl Form {
     }
 
     /// The parts of an event.
-    fn event(self, label: &SMsg) -> Result<Box<EventParts>, NoMemory>
+    fn event(self, label: &SMsg<'b>) -> Result<Box<EventParts<'b>>, NoMemory>
         ensures { IfOk result
-            (λ parts. (msg_of parts.value.label ≡ msg_of label.now) × (parts.value.then ≡ self.then)) }
+            (λ parts. (msg_of parts.value.label ≡ msg_of label.now) × (parts.value.then ≡ self.entry.then)) }
     {
         let parts = EventParts {
             label: message(self.alloc, label)?,
@@ -144,9 +153,9 @@ impl Form {
     }
 
     /// `new (x: T); P`
-    pub fn new(self, name: &SWord, a: &STy) -> Made
+    pub fn new(self, name: &SWord, a: &STy<'b>) -> Made<'b>
         ensures { IfOk result
-            (λ p. proc_of p ≡ t.new self.span name.now (ty_of a.now) (proc_of self.then)) }
+            (λ p. proc_of p ≡ t.new self.entry.span name.now (ty_of a.now) (proc_of self.entry.then)) }
     {
         let parts = NewParts {
             name: word(self.alloc, name)?,
@@ -161,8 +170,8 @@ impl Form {
 }
 
 /// The form that a line at `span` makes of a prefix, before the process that follows.
-pub fn prefixed(alloc: Global, span: Span, prefix: &Prefix, then: SProc) -> Result<SProc, NoMemory>
-    ensures { IfOk result (λ p. proc_of p ≡ prefixed span (prefix_of prefix.now) (proc_of then)) }
+pub fn prefixed<'b>(alloc: Global, span: Span, prefix: &Prefix<'b>, then: SProc<'b>) -> Made<'b>
+    ensures { IfOk result (λ p. proc_of p ≡ prefixed span (prefix_of prefix.now) (proc_of then.entry)) }
 {
     let form = Form::before(alloc, then, span);
     match prefix {
@@ -203,53 +212,52 @@ pub fn prefixed(alloc: Global, span: Span, prefix: &Prefix, then: SProc) -> Resu
     }
 }
 
-fn spelled(alloc: Global, w: &SWord) -> Result<SMsg, NoMemory>
+fn spelled<'b>(room: Room<'b>, w: &SWord) -> Result<SMsg<'b>, NoMemory>
     ensures { IfOk result (λ m. msg_of m ≡ name_spelled w.now) }
 {
-    Ok(SMsg::Name {
-        name: word(alloc, w)?,
-    })
+    named(room, word(room.alloc, w)?)
 }
 
 /// The output of a sender, before the process that follows.
-pub fn sent(
-    alloc: Global,
+pub fn sent<'b>(
+    room: Room<'b>,
     span: Span,
     channel: &SWord,
-    datum: &SMsg,
-    then: SProc,
-) -> Result<SProc, NoMemory>
-    ensures { IfOk result (λ p. proc_of p ≡ sent true span channel.now (msg_of datum.now) (proc_of then)) }
+    datum: &SMsg<'b>,
+    then: SProc<'b>,
+) -> Made<'b>
+    ensures { IfOk result
+        (λ p. proc_of p ≡ sent true span channel.now (msg_of datum.now) (proc_of then.entry)) }
 {
     let parts = OutThenParts {
-        channel: spelled(alloc, channel)?,
-        datum: message(alloc, datum)?,
+        channel: spelled(room, channel)?,
+        datum: message(room.alloc, datum)?,
         then,
     };
     Ok(SProc::OutThen {
-        parts: Box::new(alloc, parts)?,
+        parts: Box::new(room.alloc, parts)?,
         span,
     })
 }
 
 /// The input of a receiver, before the process that follows.
-pub fn received(
-    alloc: Global,
+pub fn received<'b>(
+    room: Room<'b>,
     span: Span,
     channel: &SWord,
     name: &SWord,
-    then: SProc,
-) -> Result<SProc, NoMemory>
-    ensures { IfOk result (λ p. proc_of p ≡ received true span channel.now name.now (proc_of then)) }
+    then: SProc<'b>,
+) -> Made<'b>
+    ensures { IfOk result (λ p. proc_of p ≡ received true span channel.now name.now (proc_of then.entry)) }
 {
     let parts = InpParts {
-        channel: spelled(alloc, channel)?,
-        name: word(alloc, name)?,
+        channel: spelled(room, channel)?,
+        name: word(room.alloc, name)?,
         ty: STy::Un { span: name.span },
         then,
     };
     Ok(SProc::Inp {
-        parts: Box::new(alloc, parts)?,
+        parts: Box::new(room.alloc, parts)?,
         span,
     })
 }

@@ -11,7 +11,7 @@ use crate::forms::{Form, prefixed, received, sent};
 use spi_heading::Shared;
 use spi_narrate::Line;
 use spi_text::Span;
-use spi_tree::{BothParts, SProc, SWord};
+use spi_tree::{BothParts, Room, SProc, SWord};
 use std::alloc::Global;
 
 /// Whether two words are spelled in the same way.
@@ -22,8 +22,13 @@ fn is_word(v: &SWord, w: &SWord) -> bool
 }
 
 // What a role does in a line, before the process that follows.
-fn role_part(alloc: Global, role: &SWord, line: &Line, after: SProc) -> Result<SProc, NoMemory>
-    ensures { IfOk result (λ p. proc_of p ≡ role_part role.now (line_of line.now) (proc_of after)) }
+fn role_part<'b>(
+    room: Room<'b>,
+    role: &SWord,
+    line: &Line<'b>,
+    after: SProc<'b>,
+) -> Result<SProc<'b>, NoMemory>
+    ensures { IfOk result (λ p. proc_of p ≡ role_part role.now (line_of line.now) (proc_of after.entry)) }
 {
     match line {
         Line::Local {
@@ -32,7 +37,7 @@ fn role_part(alloc: Global, role: &SWord, line: &Line, after: SProc) -> Result<S
             span,
         } => {
             if is_word(who, role) {
-                prefixed(alloc, *span, prefix, after)
+                prefixed(room.alloc, *span, prefix, after)
             } else {
                 Ok(after)
             }
@@ -46,12 +51,12 @@ fn role_part(alloc: Global, role: &SWord, line: &Line, after: SProc) -> Result<S
             span,
         } => {
             let after = if is_word(to, role) {
-                received(alloc, *span, channel, name, after)?
+                received(room, *span, channel, name, after)?
             } else {
                 after
             };
             if is_word(from, role) {
-                sent(alloc, *span, channel, datum, after)
+                sent(room, *span, channel, datum, after)
             } else {
                 Ok(after)
             }
@@ -60,19 +65,23 @@ fn role_part(alloc: Global, role: &SWord, line: &Line, after: SProc) -> Result<S
 }
 
 // The lines of a role, in order.
-fn role_process(alloc: Global, role: &SWord, lines: &[Line]) -> Result<SProc, NoMemory>
+fn role_process<'b>(room: Room<'b>, role: &SWord, lines: &[Line<'b>]) -> Result<SProc<'b>, NoMemory>
     ensures { IfOk result (λ p. proc_of p ≡ role_process role.now (map line_of lines.now)) }
 {
     let mut process = SProc::Stop { span: role.span };
     for at in (0..lines.len()).rev() {
-        process = role_part(alloc, role, &lines[at], process)?;
+        process = role_part(room, role, &lines[at], process)?;
     }
     Ok(process)
 }
 
 /// A `new` for each shared name, before the process that follows.
-pub fn sharing(alloc: Global, shared: &[Shared], after: SProc) -> Result<SProc, NoMemory>
-    ensures { IfOk result (λ p. proc_of p ≡ sharing (map shared_of shared.now) (proc_of after)) }
+pub fn sharing<'b>(
+    alloc: Global,
+    shared: &[Shared<'b>],
+    after: SProc<'b>,
+) -> Result<SProc<'b>, NoMemory>
+    ensures { IfOk result (λ p. proc_of p ≡ sharing (map shared_of shared.now) (proc_of after.entry)) }
 {
     let mut process = after;
     for at in (0..shared.len()).rev() {
@@ -83,27 +92,27 @@ pub fn sharing(alloc: Global, shared: &[Shared], after: SProc) -> Result<SProc, 
 }
 
 /// One role and more, beside one another, `whole` in the place of a `Seq`.
-pub fn roles_beside(
-    alloc: Global,
-    lines: &[Line],
+pub fn roles_beside<'b>(
+    room: Room<'b>,
+    lines: &[Line<'b>],
     first: &SWord,
     more: &[SWord],
     whole: bool,
-) -> Result<SProc, NoMemory>
+) -> Result<SProc<'b>, NoMemory>
     ensures { IfOk result
         (λ p. proc_of p
         ≡ (if whole then roles_together (map line_of lines.now) (first.now ∷ more.now)
         else roles_beside (map line_of lines.now) first.now more.now)) }
 {
     let Some((next, others)) = more.split_first() else {
-        return role_process(alloc, first, lines);
+        return role_process(room, first, lines);
     };
-    let rest = roles_beside(alloc, lines, next, others, false)?;
+    let rest = roles_beside(room, lines, next, others, false)?;
     let parts = BothParts {
-        first: role_process(alloc, first, lines)?,
+        first: role_process(room, first, lines)?,
         rest,
     };
-    let parts = Box::new(alloc, parts)?;
+    let parts = Box::new(room.alloc, parts)?;
     let span = first.span;
     if whole {
         Ok(SProc::Group { parts, span })

@@ -9,19 +9,18 @@ use crate::NoMemory;
 use crate::copies::declarations;
 use crate::roles::{last_span, roles_beside, sharing};
 use spi_narrate::Narration;
-use spi_tree::{SProc, Tree};
-use std::alloc::Global;
+use spi_tree::{Room, SProc, Tree};
 
-/// The tree of the file that a narration is woven into. Its time is that of the narration's nodes, times the number of
-/// roles. Its only error is NoMemory.
-pub fn weave(alloc: Global, n: &Narration) -> Result<Tree, NoMemory>
+/// The tree of the file that a narration is woven into. The two share the parts of their messages and types, and its time is
+/// that of the narration's lines, times the number of roles. Its only error is NoMemory.
+pub fn weave<'b>(room: Room<'b>, n: &Narration<'b>) -> Result<Tree<'b>, NoMemory>
     ensures { IfOk result (λ tree. file_of tree ≡ woven (narration_of n.now)) }
 {
-    let roles = roles_beside(alloc, &n.lines, &n.first, &n.more, true)?;
-    let process = sharing(alloc, &n.shared, roles)?;
+    let roles = roles_beside(room, &n.lines, &n.first, &n.more, true)?;
+    let process = sharing(room.alloc, &n.shared, roles)?;
     Ok(Tree {
         version: n.version,
-        decls: declarations(alloc, &n.decls)?,
+        decls: declarations(room.alloc, &n.decls)?,
         process,
         opponent: Some(SProc::Stop {
             span: last_span(n.first.span, &n.more),

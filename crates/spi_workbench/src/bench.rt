@@ -32,7 +32,7 @@ use std::mem::replace;
 use std::sync::ledger::{Blank, Ledger};
 
 /// The tree of the heading, whose declarations and shared names are moved out of the text.
-fn heading_tree(alloc: Global, text: &mut BenchText, end: u32) -> Result<Tree, NoMemory>
+fn heading_tree<'b>(alloc: Global, text: &mut BenchText<'b>, end: u32) -> Result<Tree<'b>, NoMemory>
     ensures tree { IfOk result (λ f. file_of f ≡ heading_file (bench_of text.old) end) }
     ensures edits { text.new.edits ≡ text.old.edits }
 {
@@ -67,12 +67,12 @@ fn first_bench(alloc: Global, file: &File, news: u32) -> Result<Bench, NoMemory>
 
 /// The work before any edit, or the first fault of the heading; `end` is the number of bytes of the bench's
 /// text, and `count` how many nodes its heading has.
-pub fn start(
+pub fn start<'b>(
     alloc: Global,
-    text: &mut BenchText,
+    text: &mut BenchText<'b>,
     end: u32,
     count: u64,
-) -> Result<Result<Work, Refusal>, NoMemory>
+) -> Result<Result<Work<'b>, Refusal>, NoMemory>
     requires few { length text.old.shared.items ≤ 16 }
     requires count { count ≡ stopped (heading_nodes (bench_of text.old)) }
     ensures ok { IfOk result (λ r. IfOk r (λ w. IsAt (bench_of text.old) [] w
@@ -107,10 +107,10 @@ fn edit_place(edit: &Edit) -> Span
 }
 
 /// The edits, behind a heading that stands.
-fn judge_edits_over<L: Ledger>(
+fn judge_edits_over<'b, L: Ledger>(
     alloc: Global,
-    mut work: Work,
-    mut text: BenchText,
+    mut work: Work<'b>,
+    mut text: BenchText<'b>,
     counted: Counted,
     blank: Blank,
 ) -> Result<Answer, NoMemory>
@@ -118,7 +118,7 @@ fn judge_edits_over<L: Ledger>(
     requires parts { blank.parts ≡ L.parts }
     requires some { 0 < blank.parts }
     requires starts { (b : Written) × (end : ℕ) × StartsEdits b end work text counted }
-    ensures { IfOk result (λ a. (b : Written) (end : ℕ) → StartsEdits b end work text counted
+    ensures { IfOk result (λ a. (b : Written) (end : ℕ) → StartsEdits b end work.entry text.entry counted
         → IsBenchAnswer b end a) }
 {
     if text.edits.len() > 1000 {
@@ -146,8 +146,8 @@ fn judge_edits_over<L: Ledger>(
 /// What the bench, of `end` bytes, answers: a verdict after each edit, and one in the end; or its first
 /// refusal. Want of memory is the one fault. Each part is read behind the declarations and the shared names,
 /// whose nodes are visited again for it. No edit visits the parts that are kept.
-pub fn judge_edits(alloc: Global, mut text: BenchText, end: u32) -> Result<Answer, NoMemory>
-    ensures { IfOk result (IsBenchAnswer (bench_of text) end) }
+pub fn judge_edits(alloc: Global, mut text: BenchText<'_>, end: u32) -> Result<Answer, NoMemory>
+    ensures { IfOk result (IsBenchAnswer (bench_of text.entry) end) }
 {
     if text.shared.len() > 16 {
         return Ok(Answer::Refused(Refusal::TooManyShared {

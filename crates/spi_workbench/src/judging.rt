@@ -23,7 +23,7 @@ use spi_edits::Edit;
 use spi_infer::Steps;
 use spi_scope::{File, ScopeFault, resolve};
 use spi_term::Process;
-use spi_text::Text;
+use spi_text::{Span, Text};
 use spi_tree::{SProc, SWord, Tree};
 use std::alloc::{AllocError, Global};
 use std::mem::replace;
@@ -43,14 +43,14 @@ pub fn read_file(alloc: Global, tree: &Tree) -> Result<Result<File, ScopeFault>,
 
 /// What is kept from one edit to the next: the heading, read with some process, how many shared names there are, the
 /// parts, and the nodes of the heading and of all parts so far.
-pub struct Work {
-    pub tree: Tree,
+pub struct Work<'b> {
+    pub tree: Tree<'b>,
     pub news: u32,
     pub bench: Bench,
     pub count: u64,
 }
 
-impl Drop for Work {
+impl<'b> Drop for Work<'b> {
     fn drop(self) {
         let Work {
             tree: _,
@@ -62,23 +62,23 @@ impl Drop for Work {
 }
 
 /// The process of a part that is read behind the heading, or its first fault.
-fn read_part(
+fn read_part<'b>(
     alloc: Global,
-    tree: &mut Tree,
+    tree: &mut Tree<'b>,
     news: u32,
-    part: SProc,
+    part: SProc<'b>,
 ) -> Result<Result<Process, ScopeFault>, NoMemory>
     requires { (b : Written_bench) × IsHeaded b news (file_of tree.old) }
     ensures tree { OnOk result
         ((b : Written_bench) → IsHeaded b news (file_of tree.old)
-        → file_of tree.new ≡ file_with b (proc_of part)) }
+        → file_of tree.new ≡ file_with b (proc_of part.entry)) }
     ensures ok { IfOk result
         (λ r. IfOk r (λ q. (b : Written_bench) → IsHeaded b news (file_of tree.old)
-        → (q ≡ part_meant b (proc_of part)) × IsClean (file_with b (proc_of part)))) }
+        → (q ≡ part_meant b (proc_of part.entry)) × IsClean (file_with b (proc_of part.entry)))) }
     ensures err { IfOk result
         (λ r. IfErr r
         (λ e. (b : Written_bench) → IsHeaded b news (file_of tree.old)
-        → HasFirst (file_with b (proc_of part)) e)) }
+        → HasFirst (file_with b (proc_of part.entry)) e)) }
 {
     put_behind(&mut tree.process, news, part);
     match read_file(alloc, tree)? {
@@ -88,11 +88,11 @@ fn read_part(
 }
 
 /// A part is put, or is refused.
-fn put_part<L: Ledger>(
+fn put_part<'b, L: Ledger>(
     alloc: Global,
-    work: &mut Work,
+    work: &mut Work<'b>,
     name: &SWord,
-    part: SProc,
+    part: SProc<'b>,
     nodes: u64,
     steps: &mut Steps<L>,
 ) -> Result<Option<Refusal>, NoMemory>
@@ -100,8 +100,8 @@ fn put_part<L: Ledger>(
         × (nodes ≡ stopped (part_nodes b (proc_of part))) }
     ensures { IfOk result
         (λ r. (b : Written_bench) (before : List Written) (s : Place) → IsAt b before work.old
-        → nodes ≡ stopped (part_nodes b (proc_of part))
-        → Comes b before (puts s name.now (proc_of part)) work.new r) }
+        → nodes ≡ stopped (part_nodes b (proc_of part.entry))
+        → Comes b before (puts s name.now (proc_of part.entry)) work.new r) }
 {
     let process = match read_part(alloc, &mut work.tree, work.news, part)? {
         Ok(process) => process,
@@ -134,10 +134,10 @@ fn drop_part(alloc: Global, work: &mut Work, name: &SWord) -> Result<Option<Refu
 }
 
 /// An edit, whose part is moved out of it.
-fn judge_edit<L: Ledger>(
+fn judge_edit<'b, L: Ledger>(
     alloc: Global,
-    work: &mut Work,
-    edit: &mut Edit,
+    work: &mut Work<'b>,
+    edit: &mut Edit<'b>,
     nodes: u64,
     steps: &mut Steps<L>,
 ) -> Result<Option<Refusal>, NoMemory>
@@ -148,20 +148,23 @@ fn judge_edit<L: Ledger>(
         → nodes ≡ stopped (edit_nodes b (edit_of edit.old)) → Comes b before (edit_of edit.old) work.new r) }
 {
     match edit {
-        Edit::Put { name, part, span } => {
-            let stop = SProc::Stop { span: *span };
-            let part = replace(part, stop);
-            put_part(alloc, work, name, part, nodes, steps)
+        Edit::Put { part, .. } => {
+            let span = Span { from: 0, to: 0 };
+            let part = replace(part, SProc::Stop { span });
+            match edit {
+                Edit::Put { name, .. } => put_part(alloc, work, name, part, nodes, steps),
+                Edit::Drop { .. } => unreachable!(),
+            }
         }
         Edit::Drop { name, .. } => drop_part(alloc, work, name),
     }
 }
 
 /// The edits in order, and a verdict after each.
-pub fn judge_all<L: Ledger>(
+pub fn judge_all<'b, L: Ledger>(
     alloc: Global,
-    work: &mut Work,
-    edits: &mut [Edit],
+    work: &mut Work<'b>,
+    edits: &mut [Edit<'b>],
     nodes: &[u64],
     steps: &mut Steps<L>,
 ) -> Result<Result<Vec<bool>, Refusal>, NoMemory>

@@ -15,8 +15,14 @@ use std::alloc::Global;
 use std::mem::replace;
 
 /// `new (x: T);` and a process.
-fn behind_one(alloc: Global, mut shared: Shared, then: SProc) -> Result<SProc, NoMemory>
-    ensures { IfOk result (λ p. proc_of p ≡ t.new shared.span shared.name (ty_of shared.ty) (proc_of then)) }
+fn behind_one<'b>(
+    alloc: Global,
+    mut shared: Shared<'b>,
+    then: SProc<'b>,
+) -> Result<SProc<'b>, NoMemory>
+    ensures { IfOk result
+        (λ p. proc_of p
+        ≡ t.new shared.entry.span shared.entry.name (ty_of shared.entry.ty) (proc_of then.entry)) }
 {
     let span = shared.span;
     let word = Text::of(alloc, "")?;
@@ -27,8 +33,13 @@ fn behind_one(alloc: Global, mut shared: Shared, then: SProc) -> Result<SProc, N
 }
 
 /// The process behind a `new` for each shared name.
-pub fn behind_all(alloc: Global, mut shared: Vec<Shared>, then: SProc) -> Result<SProc, NoMemory>
-    ensures { IfOk result (λ p. proc_of p ≡ behind_shared (map shared_of shared.items) (proc_of then)) }
+pub fn behind_all<'b>(
+    alloc: Global,
+    mut shared: Vec<Shared<'b>>,
+    then: SProc<'b>,
+) -> Result<SProc<'b>, NoMemory>
+    ensures { IfOk result
+        (λ p. proc_of p ≡ behind_shared (map shared_of shared.entry.items) (proc_of then.entry)) }
 {
     let mut process = then;
     while let Some(last) = shared.pop() {
@@ -38,9 +49,9 @@ pub fn behind_all(alloc: Global, mut shared: Vec<Shared>, then: SProc) -> Result
 }
 
 /// Another process in the place of that behind so many `new`s.
-pub fn put_behind(place: &mut SProc, news: u32, part: SProc)
+pub fn put_behind<'b>(place: &mut SProc<'b>, news: u32, part: SProc<'b>)
     ensures { (ss : List SharedName) (p : t.Proc) → length ss ≡ news → proc_of place.old ≡ behind_shared ss p
-        → proc_of place.new ≡ behind_shared ss (proc_of part) }
+        → proc_of place.new ≡ behind_shared ss (proc_of part.entry) }
 {
     if news == 0 {
         drop(replace(place, part));

@@ -2,12 +2,12 @@
 
 ghost use Rattle.std.specs.Prelude.{◌≡◌, ◌+◌, map};
 ghost use Rattle.spi_tree.specs.Trees.{msgs_of_list, fields_of_list};
-ghost use Rattle.spi_tree.specs.Views.{msg_of, msgs_of_more, atom_of, ty_of, field_of, last_of, proc_of};
+ghost use Rattle.spi_tree.specs.Views.{msg_of, atom_of, ty_of, field_of, last_of, proc_of};
 ghost use Rattle.spi_term.specs.Spelling.{stopped};
 ghost use Rattle.spi_workbench.specs.Sizes.{nodes_in_words, msg_size, msgs_size, atom_size, atoms_size, ty_size, fields_size, last_size, form_size, proc_size};
 
 use indexmap::IndexMap;
-use spi_tree::{Last, More, SAtom, SField, SMsg, SProc, STy, SWord};
+use spi_tree::{Last, SAtom, SField, SMsg, SProc, STy};
 
 /// How many nodes each abbreviation has.
 pub type Sizes<'t> = IndexMap<&'t str, u64>;
@@ -31,31 +31,19 @@ pub fn message_nodes(m: &SMsg) -> u64
     ensures { result ≡ stopped (msg_size (msg_of m.now)) }
 {
     match m {
-        SMsg::Name { .. } | SMsg::Unit { .. } | SMsg::Num { .. } => 1,
+        SMsg::Name { .. } | SMsg::Placed { .. } | SMsg::Unit { .. } | SMsg::Num { .. } => 1,
         SMsg::Tuple { parts, .. } => {
-            let rest = message_nodes(&parts.second).saturating_add(more_nodes(&parts.more));
+            let rest = message_nodes(&parts.second).saturating_add(messages_nodes(parts.more));
             one_over(message_nodes(&parts.first), rest)
         }
         SMsg::Inl { part, .. } => one_more(message_nodes(part)),
         SMsg::Inr { part, .. } => one_more(message_nodes(part)),
-        SMsg::Enc { body, key, .. } => one_over(message_nodes(body), message_nodes(key)),
+        SMsg::Enc { parts, .. } => one_over(message_nodes(&parts.body), message_nodes(&parts.key)),
         SMsg::Hash { part, .. } => one_more(message_nodes(part)),
     }
 }
 
 /// The components of a tuple behind the first two, with a pair for each.
-#[cycle(messages)]
-fn more_nodes(more: &More) -> u64
-    ensures { result ≡ stopped (msgs_size (msgs_of_more more.now)) }
-{
-    match more {
-        More::None => 0,
-        More::One(part) => one_over(0, message_nodes(part)),
-        More::Several(parts) => messages_nodes(parts),
-    }
-}
-
-/// The same of those that lie in a vector.
 #[cycle(messages)]
 fn messages_nodes(ms: &[SMsg]) -> u64
     ensures { result ≡ stopped (msgs_size (msgs_of_list (map msg_of ms.now))) }
@@ -88,10 +76,10 @@ fn atoms_nodes(es: &[SAtom]) -> u64
 }
 
 /// The nodes of an abbreviation's type, and of `Un` where it isn't known.
-fn abbreviation_nodes(sizes: &Sizes, word: &SWord) -> u64
-    ensures { result ≡ nodes_in_words sizes.now word.now.word }
+fn abbreviation_nodes(sizes: &Sizes, word: &str) -> u64
+    ensures { result ≡ nodes_in_words sizes.now word.now }
 {
-    match sizes.get(&word.word.as_str()) {
+    match sizes.get(&word) {
         None => 1,
         Some(nodes) => *nodes,
     }
@@ -106,13 +94,17 @@ pub fn type_nodes(sizes: &Sizes, t: &STy) -> u64
         STy::Un { .. } | STy::Unit { .. } => 1,
         STy::Tuple { parts, .. } => {
             let last = last_nodes(sizes, &parts.last);
-            let rest = fields_nodes(sizes, &parts.more).saturating_add(last);
+            let rest = fields_nodes(sizes, parts.more).saturating_add(last);
             one_over(type_nodes(sizes, &parts.first), rest)
         }
-        STy::Sum { left, right, .. } => one_over(type_nodes(sizes, left), type_nodes(sizes, right)),
+        STy::Sum { parts, .. } => {
+            let right = type_nodes(sizes, &parts.right);
+            one_over(type_nodes(sizes, &parts.left), right)
+        }
         STy::Key { part, .. } => one_more(type_nodes(sizes, part)),
-        STy::Nonce { effect, .. } => one_more(atoms_nodes(effect)),
-        STy::Abbr { name } => abbreviation_nodes(sizes, name),
+        STy::Nonce { effect, .. } => one_more(atoms_nodes(effect.atoms)),
+        STy::Abbr { word, .. } => abbreviation_nodes(sizes, word.as_str()),
+        STy::Placed { name } => abbreviation_nodes(sizes, name.word.as_str()),
     }
 }
 

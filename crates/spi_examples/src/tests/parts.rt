@@ -5,9 +5,10 @@ ghost use Rattle.spi_lex.specs.Lexing.{kinds_of};
 ghost use Rattle.spi_tree.specs.Formed.{AreWordsFit};
 
 use super::samples::{NoMemory, TextQuestion, each};
+use bumpalo::Bump;
 use spi_lex::{LexFault, Token, is_version_2, lex};
 use spi_parse::{ParseFault, decl_at, message_at, parse, process_at, type_at};
-use spi_tree::tokens_of;
+use spi_tree::{Room, tokens_of};
 use std::alloc::Global;
 
 /// A kind of part.
@@ -61,11 +62,13 @@ impl TextQuestion for Part {
         let Ok((tokens, from, version)) = lexed(alloc, text) else {
             return Ok(None);
         };
+        let bump = Bump::new(alloc);
+        let room = Room { alloc, bump: &bump };
         Ok(match self {
-            Part::Type => number_of(type_at(alloc, &tokens, from, version)),
-            Part::Message => number_of(message_at(alloc, &tokens, from, version)),
-            Part::Process => number_of(process_at(alloc, &tokens, from, version)),
-            Part::Declaration => number_of(decl_at(alloc, &tokens, from, version)),
+            Part::Type => number_of(type_at(room, &tokens, from, version)),
+            Part::Message => number_of(message_at(room, &tokens, from, version)),
+            Part::Process => number_of(process_at(room, &tokens, from, version)),
+            Part::Declaration => number_of(decl_at(room, &tokens, from, version)),
         })
     }
 }
@@ -132,7 +135,9 @@ fn parsed(alloc: Global, text: &str) -> Result<Option<u64>, LexFault> {
     }
     let end = text.len() as u32;
     let tokens = lex(alloc, text.as_bytes())?;
-    match parse(alloc, &tokens, end) {
+    let bump = Bump::new(alloc);
+    let parsed = parse(Room { alloc, bump: &bump }, &tokens, end);
+    match parsed {
         Ok(tree) => match tokens_of(alloc, &tree) {
             Ok(kinds) => Ok(Some(kinds.len() as u64)),
             Err(_) => Err(LexFault::NoMemory),

@@ -1,10 +1,11 @@
 // Files by example: where their parts stand, and which names are in scope.
 
 use super::samples::{BEGINS, Line, MISSING, NoMemory, Question, each, each_line, shows};
+use bumpalo::Bump;
 use spi_gen::sessions;
 use spi_opponent::is_opponent;
 use spi_scope::{File, resolve};
-use spi_tree::tokens_of;
+use spi_tree::{Room, tokens_of};
 use std::alloc::Global;
 
 /// Where a part of a file begins.
@@ -85,7 +86,8 @@ fn an_opponent_neither_begins_nor_has_types(rt: HostRuntime) {
 
 /// Whether the tree of two generated sessions has so many tokens, and stands for a file.
 fn are_sessions(alloc: Global, tokens: usize) -> Result<bool, NoMemory> {
-    let tree = sessions(alloc, 2)?;
+    let bump = Bump::new(alloc);
+    let tree = sessions(Room { alloc, bump: &bump }, 2)?;
     Ok(tokens_of(alloc, &tree)?.len() == tokens && resolve(alloc, &tree).is_ok())
 }
 

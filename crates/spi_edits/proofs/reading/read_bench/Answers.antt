@@ -1,4 +1,4 @@
-use Rattle.std.proofs.Common.{◌==◌, map}
+use Rattle.std.proofs.Common.{◌==◌, map, refl}
 use Rattle.spi_tree.specs.Views.{decl_of}
 use Rattle.spi_heading.specs.Views.{shared_of}
 use Rattle.spi_heading.proofs.Fronts.{heading_answer, behind_heading}
@@ -15,8 +15,8 @@ returns-in_err-heading c =
     parse_fails bench_of c.args.tokens.now c.in_err-heading.field-0.0 c.from_residual.result c.from_residual.ensures.1
     (heading_answer benches_headed c.args.tokens.now c.requires.words c.in_err-heading.field-0.0 c.in_err-heading.ensures.read)
 
-pub parts_at-requires-clause-solid : goal.parts_at-requires-clause-solid
-parts_at-requires-clause-solid c = record { behind = edit_behind; solid = edit_solid }
+pub parts_at-requires : goal.parts_at-requires
+parts_at-requires c = λ k. ((refl, tt), (c.in_ok-heading.ensures.text, (c.in_ok-heading.ensures.within, record { behind = edit_behind; solid = edit_solid })))
 
 pub returns-in_err-edits : goal.returns-in_err-edits
 returns-in_err-edits c =

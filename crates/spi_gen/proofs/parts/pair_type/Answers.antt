@@ -4,4 +4,4 @@ use Rattle.spi_gen.proofs.parts.pair_type.Goals as goal
 
 pub returns : goal.returns
 returns c =
-    tuple_ty_made c.in_ok-new.field-0 (record { from = 0; to = 0 }) c.args.name c.args.first c.new.result c.args.last c.in_ok-new.ensures.ok ∙ search rules
+    tuple_ty_made c.in_ok-placed.field-0 (record { from = 0; to = 0 }) _ _ _ _ c.in_ok-placed.ensures ∙ search rules

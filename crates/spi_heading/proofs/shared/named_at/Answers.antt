@@ -26,12 +26,13 @@ returns-in_err-ty-clause-read c =
     part_fails (named_are (c.args.version == 2)) c.args.tokens.now c.args.at named_of c.in_err-ty.field-0.0 c.from_residual-in_err-ty.result c.from_residual-in_err-ty.ensures.1
     (no_type (then_token named c.in_ok-ty_at.ty_at c.in_ok-ty_at.ensures.taken) ty_of c.in_err-ty.field-0.0 c.in_err-ty.ensures)
 
-pub returns-clause-read : goal.returns-clause-read
-returns-clause-read c =
+pub returns-in-Ok-clause-read : goal.returns-in-Ok-clause-read
+returns-in-Ok-clause-read c =
     let start = begun (c.args.version == 2) c.args.tokens.now c.args.at named_row c.requires.text.words in
     let named = then_word start c.in_ok-name.name c.in_ok-name.colon c.in_ok-name.ensures.taken in
     let typed = then_type (then_token named c.in_ok-ty_at.ty_at c.in_ok-ty_at.ensures.taken) (ty_of c.in_ok-ty.ty) c.in_ok-ty.next c.in_ok-ty_at.ensures.within c.in_ok-ty.ensures in
-    part_reads (named_are (c.args.version == 2)) c.args.tokens.now c.args.at c.requires.text.words (record { name = c.in_ok-name.name; ty = ty_of c.in_ok-ty.ty }) c.in_ok-ty.next (ended typed)
+    let read = part_reads (named_are (c.args.version == 2)) c.args.tokens.now c.args.at c.requires.text.words (record { name = c.in_ok-name.name; ty = ty_of c.in_ok-ty.ty }) c.in_ok-ty.next (ended typed) in
+    rw c.in-Ok.ensures.ok read
 
-pub returns-clause-within : goal.returns-clause-within
-returns-clause-within c = type_within (c.args.version == 2) c.args.tokens.now c.in_ok-ty_at.ty_at (ty_of c.in_ok-ty.ty) c.in_ok-ty.next c.in_ok-ty_at.ensures.within c.in_ok-ty.ensures
+pub returns-in-Ok-clause-within : goal.returns-in-Ok-clause-within
+returns-in-Ok-clause-within c = type_within (c.args.version == 2) c.args.tokens.now c.in_ok-ty_at.ty_at (ty_of c.in_ok-ty.ty) c.in_ok-ty.next c.in_ok-ty_at.ensures.within c.in_ok-ty.ensures

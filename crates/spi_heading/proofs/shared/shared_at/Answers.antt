@@ -41,5 +41,5 @@ returns-clause-read c =
     let next = c.in_ok-next.next in
     let first = then_opening (begun (c.args.version == 2) c.args.tokens.now c.args.at shared_row c.requires.text.words) (took_before c.args.tokens.now c.args.at c.in_ok-name_at.name_at (the_word shared) c.in_ok-name_at.ensures.taken) in
     let named = then_part last_row (named_are (c.args.version == 2)) (then_token first c.in_ok-name_at.name_at c.in_ok-name_at.ensures.taken) (named_of c.in_ok-named.named) c.in_ok-named.end c.in_ok-name_at.ensures.within c.in_ok-named.ensures.read in
-    subst (λ (s : Span). (n : ℕ) × (next ≡ c.args.at + n) × exact.IsPartAt whole_shared (IsWholeShared (c.args.version == 2)) (record { span = s; name = c.in_ok-named.named.name; ty = ty_of c.in_ok-named.named.ty }) (drop c.args.at c.args.tokens.now) n) (sym c.span_between-span.ensures)
-    (part_reads (shared_are (c.args.version == 2)) c.args.tokens.now c.args.at c.requires.text.words (record { span = span_over c.args.tokens.now c.args.at next; name = c.in_ok-named.named.name; ty = ty_of c.in_ok-named.named.ty }) next (ended (then_closing (then_token named next c.in_ok-next.ensures.taken))))
+    rw c.into_inner.ensures (subst (λ (s : Span). (n : ℕ) × (next ≡ c.args.at + n) × exact.IsPartAt whole_shared (IsWholeShared (c.args.version == 2)) (record { span = s; name = c.in_ok-named.named.name; ty = ty_of c.in_ok-named.named.ty.value }) (drop c.args.at c.args.tokens.now) n) (sym c.span_between-span.ensures)
+    (part_reads (shared_are (c.args.version == 2)) c.args.tokens.now c.args.at c.requires.text.words (record { span = span_over c.args.tokens.now c.args.at next; name = c.in_ok-named.named.name; ty = ty_of c.in_ok-named.named.ty.value }) next (ended (then_closing (then_token named next c.in_ok-next.ensures.taken)))))

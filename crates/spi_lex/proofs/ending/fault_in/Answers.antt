@@ -1,4 +1,4 @@
-use Rattle.std.proofs.Common.{◌-◌, ℕ, List, Ok, [], length, subst, sym, inr, arith}
+use Rattle.std.proofs.Common.{◌-◌, ℕ, List, Ok, [], length, subst, sym, inl, inr, arith}
 use Rattle.std.proofs.lemmas.Bool.{eqb-true}
 use Rattle.std.proofs.lemmas.Str.{IsUtf8-drop}
 use Rattle.std.specs.Str.{IsUtf8}
@@ -19,13 +19,14 @@ loop-rest-init c = (
 pub returns-in_default : goal.returns-in_default
 returns-in_default c =
     let so_far = c.loop-rest.invariant.2.so_far in
-    inr (finds_none c.args.text.now c.loop-rest.rest.now c.loop-rest.invariant.1 (length c.args.text.now - length c.loop-rest.rest.now) c.utf8.text c.loop-rest.invariant.2 (omega arith) c.in_default.ensures.none)
+    (finds_none c.args.text.now c.loop-rest.rest.now c.loop-rest.invariant.1 (length c.args.text.now - length c.loop-rest.rest.now) c.utf8.text c.loop-rest.invariant.2 (omega arith) c.in_default.ensures.none)
 
 pub returns-in-Some-fault_of : goal.returns-in-Some-fault_of
 returns-in-Some-fault_of c =
     let so_far = c.loop-rest.invariant.2.so_far in
     let at : ℕ = length c.args.text.now - length c.loop-rest.rest.now in
-    fails c.args.text.now c.loop-rest.rest.now c.loop-rest.invariant.1 c.in-Some.len at c.in-Some.shape c.in-Some-fault_of.fault c.utf8.text c.loop-rest.invariant.2 (omega arith) c.in-Some.ensures.found c.in-Some-fault_of.ensures
+    let f = c.in-Some-fault_of.ensures in
+    elim (fails c.args.text.now c.loop-rest.rest.now c.loop-rest.invariant.1 c.in-Some.len at c.in-Some.shape c.in-Some-fault_of.fault c.utf8.text c.loop-rest.invariant.2 (omega arith) c.in-Some.ensures.found f.1) [ inl memory ↦ absurd (f.0 memory) | inr fault ↦ fault ]
 
 pub loop-rest-preserved : goal.loop-rest-preserved
 loop-rest-preserved c =

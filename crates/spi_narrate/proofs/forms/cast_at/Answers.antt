@@ -32,7 +32,7 @@ pub returns : goal.returns
 returns c =
     let whole = then_part (closed_row mark.ParenOpen ++ closing ∷ []) (whole_are (c.args.version == 2)) (begun_node (c.args.version == 2) c.args.tokens.now c.args.at c.requires.text.words (the_reserved word.Cast) cast_rest c.requires.first) (msg_of c.in_ok-whole.whole) c.in_ok-whole.open (there_within c.args.tokens.now c.args.at (K.Reserved word.Cast) c.requires.first) c.in_ok-whole.ensures.read in
     let named = then_part (closing ∷ []) (closed_are (c.args.version == 2) mark.ParenOpen) whole (named_of c.in_ok-bound.bound) c.in_ok-bound.next c.in_ok-whole.ensures.within c.in_ok-bound.ensures.read in
-    prefix_reads (c.args.version == 2) c.args.tokens.now c.args.at c.requires.text.words (λ (s : Span). n.cast s (msg_of c.in_ok-whole.whole) c.in_ok-bound.bound.name (ty_of c.in_ok-bound.bound.ty)) c.span_between-span.result c.in_ok-bound.next c.span_between-span.ensures (c.in_ok-whole.ensures.read.2.part.0, c.in_ok-bound.ensures.read.2.part.0) cast_row _ refl
+    prefix_reads (c.args.version == 2) c.args.tokens.now c.args.at c.requires.text.words (λ (s : Span). n.cast s (msg_of c.in_ok-whole.whole) c.in_ok-bound.bound.name (ty_of c.in_ok-bound.bound.ty.value)) c.span_between-span.result c.in_ok-bound.next c.span_between-span.ensures (c.in_ok-whole.ensures.read.2.part.0, c.in_ok-bound.ensures.read.2.part.0) cast_row _ refl
     (ended (then_closing named))
 
 pub whole_at-requires-clause-start : goal.whole_at-requires-clause-start

@@ -42,7 +42,7 @@ returns c =
     let bound = then_part (token (the_mark mark.BraceClose) ∷ message ∷ closing ∷ []) (bound_are (c.args.version == 2) mark.BraceOpen) (begun_node (c.args.version == 2) c.args.tokens.now c.args.at c.requires.text.words (the_reserved word.Decrypt) decrypt_rest c.requires.first) (msg_of c.in_ok-opened.opened.0, named_of c.in_ok-opened.opened.1) c.in_ok-opened.close (there_within c.args.tokens.now c.args.at (K.Reserved word.Decrypt) c.requires.first) c.in_ok-opened.ensures.read in
     let closed = then_token bound c.in_ok-key_at.key_at c.in_ok-key_at.ensures.taken in
     let key = then_message closed (msg_of c.in_ok-key.key) c.in_ok-key.next c.in_ok-key_at.ensures.within c.in_ok-key.ensures in
-    prefix_reads (c.args.version == 2) c.args.tokens.now c.args.at c.requires.text.words (λ (s : Span). n.decrypt s (msg_of c.in_ok-opened.opened.0) c.in_ok-opened.opened.1.name (ty_of c.in_ok-opened.opened.1.ty) (msg_of c.in_ok-key.key)) c.span_between-span.result c.in_ok-key.next c.span_between-span.ensures (c.in_ok-opened.ensures.read.2.part.0, c.in_ok-opened.ensures.read.2.part.1, c.in_ok-key.ensures.2.part.0) decrypt_row _ refl
+    prefix_reads (c.args.version == 2) c.args.tokens.now c.args.at c.requires.text.words (λ (s : Span). n.decrypt s (msg_of c.in_ok-opened.opened.0) c.in_ok-opened.opened.1.name (ty_of c.in_ok-opened.opened.1.ty.value) (msg_of c.in_ok-key.key)) c.span_between-span.result c.in_ok-key.next c.span_between-span.ensures (c.in_ok-opened.ensures.read.2.part.0, c.in_ok-opened.ensures.read.2.part.1, c.in_ok-key.ensures.2.part.0) decrypt_row _ refl
     (ended (then_closing key))
 
 pub bound_at-requires-clause-start : goal.bound_at-requires-clause-start

@@ -50,7 +50,7 @@ returns c =
     let marked = then_token bound c.in_ok-equal_at.equal_at c.in_ok-equal_at.ensures.taken in
     let equal = then_message marked (msg_of c.in_ok-equal.equal) c.in_ok-equal.comma c.in_ok-equal_at.ensures.within c.in_ok-equal.ensures in
     let right = then_part (closing ∷ []) (closed_are (c.args.version == 2) mark.Comma) equal (named_of c.in_ok-right.right) c.in_ok-right.next (message_within (c.args.version == 2) c.args.tokens.now c.in_ok-equal_at.equal_at (msg_of c.in_ok-equal.equal) c.in_ok-equal.comma c.in_ok-equal_at.ensures.within c.in_ok-equal.ensures) c.in_ok-right.ensures.read in
-    prefix_reads (c.args.version == 2) c.args.tokens.now c.args.at c.requires.text.words (λ (s : Span). n.match s (msg_of c.in_ok-bound.bound.0) c.in_ok-bound.bound.1.name (ty_of c.in_ok-bound.bound.1.ty) (msg_of c.in_ok-equal.equal) c.in_ok-right.right.name (ty_of c.in_ok-right.right.ty)) c.span_between-span.result c.in_ok-right.next c.span_between-span.ensures (c.in_ok-bound.ensures.read.2.part.0, c.in_ok-bound.ensures.read.2.part.1, c.in_ok-equal.ensures.2.part.0, c.in_ok-right.ensures.read.2.part.0) match_row _ refl
+    prefix_reads (c.args.version == 2) c.args.tokens.now c.args.at c.requires.text.words (λ (s : Span). n.match s (msg_of c.in_ok-bound.bound.0) c.in_ok-bound.bound.1.name (ty_of c.in_ok-bound.bound.1.ty.value) (msg_of c.in_ok-equal.equal) c.in_ok-right.right.name (ty_of c.in_ok-right.right.ty.value)) c.span_between-span.result c.in_ok-right.next c.span_between-span.ensures (c.in_ok-bound.ensures.read.2.part.0, c.in_ok-bound.ensures.read.2.part.1, c.in_ok-equal.ensures.2.part.0, c.in_ok-right.ensures.read.2.part.0) match_row _ refl
     (ended (then_closing right))
 
 pub bound_at-requires-clause-start : goal.bound_at-requires-clause-start

@@ -25,7 +25,7 @@ returns-in_err-bound c =
 pub returns : goal.returns
 returns c =
     let named = then_part (closing ∷ []) (closed_are (c.args.version == 2) mark.ParenOpen) (begun_node (c.args.version == 2) c.args.tokens.now c.args.at c.requires.text.words (the_reserved word.New) new_rest c.requires.first) (named_of c.in_ok-bound.bound) c.in_ok-bound.next (there_within c.args.tokens.now c.args.at (K.Reserved word.New) c.requires.first) c.in_ok-bound.ensures.read in
-    prefix_reads (c.args.version == 2) c.args.tokens.now c.args.at c.requires.text.words (λ (s : Span). n.new s c.in_ok-bound.bound.name (ty_of c.in_ok-bound.bound.ty)) c.span_between-span.result c.in_ok-bound.next c.span_between-span.ensures c.in_ok-bound.ensures.read.2.part.0 new_row _ refl
+    prefix_reads (c.args.version == 2) c.args.tokens.now c.args.at c.requires.text.words (λ (s : Span). n.new s c.in_ok-bound.bound.name (ty_of c.in_ok-bound.bound.ty.value)) c.span_between-span.result c.in_ok-bound.next c.span_between-span.ensures c.in_ok-bound.ensures.read.2.part.0 new_row _ refl
     (ended (then_closing named))
 
 pub closed_at-requires-clause-start : goal.closed_at-requires-clause-start

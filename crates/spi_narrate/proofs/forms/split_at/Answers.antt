@@ -34,7 +34,7 @@ pub returns : goal.returns
 returns c =
     let bound = then_part (closed_row mark.Comma ++ closing ∷ []) (bound_are (c.args.version == 2) mark.ParenOpen) (begun_node (c.args.version == 2) c.args.tokens.now c.args.at c.requires.text.words (the_reserved word.Split) split_rest c.requires.first) (msg_of c.in_ok-bound.bound.0, named_of c.in_ok-bound.bound.1) c.in_ok-bound.comma (there_within c.args.tokens.now c.args.at (K.Reserved word.Split) c.requires.first) c.in_ok-bound.ensures.read in
     let right = then_part (closing ∷ []) (closed_are (c.args.version == 2) mark.Comma) bound (named_of c.in_ok-right.right) c.in_ok-right.next c.in_ok-bound.ensures.within c.in_ok-right.ensures.read in
-    prefix_reads (c.args.version == 2) c.args.tokens.now c.args.at c.requires.text.words (λ (s : Span). n.split s (msg_of c.in_ok-bound.bound.0) c.in_ok-bound.bound.1.name (ty_of c.in_ok-bound.bound.1.ty) c.in_ok-right.right.name (ty_of c.in_ok-right.right.ty)) c.span_between-span.result c.in_ok-right.next c.span_between-span.ensures (c.in_ok-bound.ensures.read.2.part.0, c.in_ok-bound.ensures.read.2.part.1, c.in_ok-right.ensures.read.2.part.0) split_row _ refl
+    prefix_reads (c.args.version == 2) c.args.tokens.now c.args.at c.requires.text.words (λ (s : Span). n.split s (msg_of c.in_ok-bound.bound.0) c.in_ok-bound.bound.1.name (ty_of c.in_ok-bound.bound.1.ty.value) c.in_ok-right.right.name (ty_of c.in_ok-right.right.ty.value)) c.span_between-span.result c.in_ok-right.next c.span_between-span.ensures (c.in_ok-bound.ensures.read.2.part.0, c.in_ok-bound.ensures.read.2.part.1, c.in_ok-right.ensures.read.2.part.0) split_row _ refl
     (ended (then_closing right))
 
 pub bound_at-requires-clause-start : goal.bound_at-requires-clause-start

@@ -1,4 +1,4 @@
-use Rattle.std.proofs.Common.{◌≡◌, ◌==◌, ◌∷◌, ℕ, List, length, map, ap, ◌∙◌}
+use Rattle.std.proofs.Common.{◌≡◌, ◌==◌, ◌∷◌, ℕ, List, length, map, ap, refl, ◌∙◌}
 use Rattle.std.specs.Global.{Vec}
 use Rattle.spi_tree.specs.Views.{decl_of}
 use Rattle.spi_tree.specs.declared.tree.SWord.{SWord}
@@ -31,11 +31,10 @@ returns-in_err-roles c =
     roles_of : SWord × Vec SWord → List SWord
     roles_of x = x.0 ∷ x.1.items
 
-pub parts_at-requires-clause-solid : goal.parts_at-requires-clause-solid
-parts_at-requires-clause-solid c = record { behind = line_behind; solid = line_solids }
-
-pub parts_at-requires-clause-start : goal.parts_at-requires-clause-start
-parts_at-requires-clause-start c = part_within whole_roles (AreWholeRoles (c.in_ok-heading.heading.version == 2)) (c.in_ok-roles.roles.0 ∷ c.in_ok-roles.roles.1.items) c.args.tokens.now c.in_ok-heading.roles_start c.in_ok-roles.lines_start c.in_ok-heading.ensures.within c.in_ok-roles.ensures
+pub parts_at-requires : goal.parts_at-requires
+parts_at-requires c κs =
+    let start = part_within whole_roles (AreWholeRoles (c.in_ok-heading.heading.version == 2)) (c.in_ok-roles.roles.0 ∷ c.in_ok-roles.roles.1.items) c.args.tokens.now c.in_ok-heading.roles_start c.in_ok-roles.lines_start c.in_ok-heading.ensures.within c.in_ok-roles.ensures in
+    ((refl, tt), (c.in_ok-heading.ensures.text, (start, record { behind = line_behind; solid = line_solids })))
 
 pub returns-in_err-lines : goal.returns-in_err-lines
 returns-in_err-lines c =

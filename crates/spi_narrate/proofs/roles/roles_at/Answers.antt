@@ -1,4 +1,4 @@
-use Rattle.std.proofs.Common.{◌==◌, ◌∷◌, [], List}
+use Rattle.std.proofs.Common.{◌==◌, ◌∷◌, [], List, refl}
 use Rattle.std.specs.Global.{Vec}
 use Rattle.spi_tree.specs.declared.tree.SWord.{SWord}
 use Rattle.spi_heading.specs.Each.{IsWhole}
@@ -23,8 +23,8 @@ returns-in_err-first c =
     roles_answer (c.args.version == 2) c.args.tokens.now c.requires.text.words c.args.at view c.in_err-first.field-0.0 c.from_residual-in_err-first.result c.from_residual-in_err-first.ensures.1
     (roles_head_fails (c.args.version == 2) c.args.tokens.now c.requires.text.words c.args.at c.in_err-first.field-0.0 (no_word word c.in_err-first.field-0.0 c.in_err-first.ensures.taken))
 
-pub parts_at-requires-clause-solid : goal.parts_at-requires-clause-solid
-parts_at-requires-clause-solid c = record { behind = comma_behind; solid = comma_solid }
+pub parts_at-requires : goal.parts_at-requires
+parts_at-requires c κs = ((refl, tt), (c.requires.text, (c.in_ok-first.ensures.within, record { behind = comma_behind; solid = comma_solid })))
 
 pub returns-in_err-more : goal.returns-in_err-more
 returns-in_err-more c =

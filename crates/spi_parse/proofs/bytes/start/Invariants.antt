@@ -1,4 +1,4 @@
-use Rattle.std.proofs.Common.{◌≡◌, ◌-◌, List, length, drop}
+use Rattle.std.proofs.Common.{◌≡◌, ◌-◌, length, drop}
 use Rattle.spi_lex.specs.Left.{tokens_in}
 use Rattle.spi_lex.specs.Reader.{tokens_left}
 use Rattle.spi_parse.proofs.bytes.start.Given as goal

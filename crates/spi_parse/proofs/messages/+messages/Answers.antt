@@ -5,8 +5,7 @@ use Rattle.std.proofs.lemmas.Result.{err_from_is_err_and}
 use Rattle.spi_parse.specs.Places.{state_of, GivesPart}
 use Rattle.spi_parse.specs.Reading.{read, limited}
 use Rattle.spi_parse.proofs.Fronts.{front_none, goes_on, is_done, gives_up}
-use Rattle.spi_tree.specs.Views.{msg_of, more_items}
-use Rattle.spi_tree.proofs.Rows.{several_are}
+use Rattle.spi_tree.specs.Views.{msg_of}
 use Rattle.spi_parse.specs.Table.{msgs, msgs_item}
 use Rattle.spi_parse.proofs.Readers.{read_is_step, takes_some}
 use Rattle.spi_parse.proofs.Lists.{msgs_law, msgs_take}
@@ -85,7 +84,7 @@ several_messages-returns-in_err-item t c =
 pub several_messages-returns-in-None : goal.several_messages-returns-in-None
 several_messages-returns-in-None t c =
     let e = rw c.in-None.is at c.in_ok-item.ensures in
-    rw (several_are c.items.more)
+    rw c.in_ok-row-in-None.ensures
     (is_done (read limited (msgs_item c.args.node.later c.args.node.numbered c.args.node.nesting)) (read limited (msgs c.args.node.later c.args.node.numbered c.args.node.nesting)) (msgs_law c.args.node.later c.args.node.numbered c.args.node.nesting) (map msg_of c.items.more.items) tt (state_of c.items.at) (state_of c.next_message.new.at) _ e c.items.invariant)
 
 pub any_message-returns-in_ok-fits-in-Mark-ParenOpen : goal.any_message-returns-in_ok-fits-in-Mark-ParenOpen
@@ -101,7 +100,7 @@ pub more_messages-returns-in-Some : goal.more_messages-returns-in-Some
 more_messages-returns-in-Some t c =
     let e = rw c.in-Some.is at c.in_ok-item.ensures in
     let rest = goes_on (read limited (msgs_item c.args.node.later c.args.node.numbered c.args.node.nesting)) (read limited (msgs c.args.node.later c.args.node.numbered c.args.node.nesting)) (msgs_law c.args.node.later c.args.node.numbered c.args.node.nesting) [] (msg_of c.in-Some.third) (state_of c.args.at.now) (state_of c.next_message.new.at) _ e (front_none _) in
-    subst (λ r. GivesPart (λ v. (map msg_of (more_items v), tt)) c.behind_third.result (state_of c.behind_third.new.at) r) rest c.behind_third.ensures
+    subst (λ r. GivesPart (λ v. (map msg_of v.now, tt)) c.behind_third.result (state_of c.behind_third.new.at) r) rest c.behind_third.ensures
 
 pub more_messages-returns-in_err-item : goal.more_messages-returns-in_err-item
 more_messages-returns-in_err-item t c =

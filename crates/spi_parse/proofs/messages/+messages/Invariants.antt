@@ -5,8 +5,8 @@ use Rattle.spi_tree.specs.Views.{msg_of}
 use Rattle.spi_parse.specs.Table.{msgs}
 use Rattle.spi_parse.proofs.messages.+messages.Given as goal
 
-abbrev pub decreases-boxed_message : goal.decreases-boxed_message
-decreases-boxed_message l = 16 * (1001 - l.node.nesting) + 6
+abbrev pub decreases-placed_message : goal.decreases-placed_message
+decreases-placed_message l = 16 * (1001 - l.node.nesting) + 6
 
 abbrev pub decreases-message_of : goal.decreases-message_of
 decreases-message_of l = 16 * (1001 - l.node.nesting) + 5

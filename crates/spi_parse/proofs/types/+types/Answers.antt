@@ -60,7 +60,8 @@ read_fields-returns-in_err-item t c =
 pub read_fields-returns-in-Last : goal.read_fields-returns-in-Last
 read_fields-returns-in-Last t c =
     let e = rw c.in-Last.is at c.in_ok-item.ensures in
-    is_done (read limited (fields_item c.args.later c.args.nesting)) (read limited (fields c.args.later c.args.nesting)) (fields_law c.args.later c.args.nesting) (map field_of c.items.more.items) (last_of c.in-Last.last) (state_of c.items.at) (state_of c.next_field.new.at) _ e c.items.invariant
+    rw c.in_ok-row-in-Last.ensures
+    (is_done (read limited (fields_item c.args.later c.args.nesting)) (read limited (fields c.args.later c.args.nesting)) (fields_law c.args.later c.args.nesting) (map field_of c.items.more.items) (last_of c.in-Last.last) (state_of c.items.at) (state_of c.next_field.new.at) _ e c.items.invariant)
 
 pub any_type-returns-in_ok-fits-in-Reserved-Nonce : goal.any_type-returns-in_ok-fits-in-Reserved-Nonce
 any_type-returns-in_ok-fits-in-Reserved-Nonce t c = rw read_is_step (grind (arith, common_steps))

@@ -5,8 +5,8 @@ use Rattle.spi_tree.specs.Views.{field_of}
 use Rattle.spi_parse.specs.Table.{fields}
 use Rattle.spi_parse.proofs.types.+types.Given as goal
 
-abbrev pub decreases-boxed_type : goal.decreases-boxed_type
-decreases-boxed_type l = 20 * (1001 - l.nesting) + 5
+abbrev pub decreases-placed_type : goal.decreases-placed_type
+decreases-placed_type l = 20 * (1001 - l.nesting) + 5
 
 abbrev pub decreases-read_type : goal.decreases-read_type
 decreases-read_type l = 20 * (1001 - l.nesting) + 4

@@ -14,10 +14,10 @@ returns-in-Err-first c = parses_ok file_of c.args.tokens.now c.requires.words c.
     (subst (λ (s : State). read limited file s ≡ Ok (file_of c.in-Ok.tree, state_of c.read_file.new.at)) c.of-at.ensures c.in-Ok.ensures
     ∙ ap (λ (l : List Tok). Ok (file_of c.in-Ok.tree, at c.read_file.new.at.end l)) c.in-Err-first.ensures.0)
 
-pub returns-in-Ok-first : goal.returns-in-Ok-first
-returns-in-Ok-first c = rw (c.fault_of.ensures, c.syntax.ensures)
+pub returns-in-Ok : goal.returns-in-Ok
+returns-in-Ok c = rw (c.fault_of.ensures, c.syntax.ensures)
     (left_over c.args.tokens.now c.requires.words c.in-Ok.tree (state_of c.of-at.result) c.read_file.new.at _ _ c.of-at.ensures c.in-Ok-first.ensures c.in-Ok.ensures)
 
-pub returns-in-Err : goal.returns-in-Err
-returns-in-Err c = rw c.fault_of-in-Err.ensures (parses_err file_of c.args.tokens.now c.requires.words c.in-Err.stop
+pub returns : goal.returns
+returns c = rw c.fault_of-in-Err.ensures (parses_err file_of c.args.tokens.now c.requires.words c.in-Err.stop
     (subst (λ (s : State). Fails c.in-Err.stop (read limited file s)) c.of-at.ensures c.in-Err.ensures))

@@ -1,18 +1,14 @@
-use Rattle.std.proofs.Common.{rules, ◌≡◌, ◌∷◌, ◌-◌, List, length, drop, map, ap, sym, ◌∙◌, subst}
+use Rattle.std.proofs.Common.{rules, ◌≡◌, ◌-◌, length, drop, map, ap, sym, ◌∙◌, subst}
 use Rattle.std.specs.Prelude.{⊤}
 use Rattle.spi_tree.specs.Trees.{fields_of_list}
 use Rattle.spi_tree.specs.Views.{ty_of, field_of, last_of}
-use Rattle.spi_tree.specs.declared.tree.SField.{SField}
-use Rattle.spi_tree.specs.declared.tree.STy.{STy}
-use Rattle.spi_tree.specs.declared.tree.Last.{Last}
 use Rattle.spi_tree.specs.declared.tree.STy.TheVariants.{Tuple}
 use Rattle.spi_tree.specs.declared.tree.TyParts.{out-TyParts}
 use Rattle.spi_tree.proofs.Rows.{tuple_ty_is}
 use Rattle.spi_term.specs.View.{ty}
 use Rattle.spi_scope.specs.Forms.{TypeForm, tuple_ty_form, sum_form, other_type, type_form}
-use Rattle.spi_scope.specs.Meaning.{behind}
 use Rattle.spi_scope.specs.Table.{with_names}
-use Rattle.spi_scope.proofs.Tuples.{CountedType, CountedFields, CountedLast, naming, in_names, bound, tuple_counted, tuple_left}
+use Rattle.spi_scope.proofs.Tuples.{naming, bound, tuple_counted, tuple_left}
 use Rattle.spi_scope.proofs.types.+types.Goals as goal
 
 pub read_tuple-returns : goal.read_tuple-returns
@@ -20,36 +16,30 @@ read_tuple-returns t c =
     let w = c.in-Tuple in
     let s = c.args.scope.now in
     let e : c.args.t.now ≡ Tuple w.parts w.span = w.is in
-    let p = out-TyParts w.parts.value in
+    let p = out-TyParts w.parts.now in
     let s1 = c.read_type.new.scope in
-    let b : c.bind.new.self ≡ with_names s1.held (p.name.word ∷ s1.held.names) = c.in_ok-bind-in-Tuple.ensures.names ∙ ap (λ x. with_names s1.held (x ∷ s1.held.names)) (ap (λ v. (out-TyParts v).name.word) c.deref-in-Tuple.ensures) in
-    let t1 = naming s1 c.bind.new.self in
+    let t1 = naming s1 c.bind_in_type.new.self in
     let head = c.in_ok-head-in-Tuple in
     let fields = c.in_ok-fields-in-Tuple in
     let tail = c.in_ok-tail-in-Tuple in
     let s3 = c.read_last.new.scope in
-    let h1 : CountedType c.args.base c.saturating_add.result head.total (ty head.head) (ty_of p.first) s =
-    subst (λ (x : STy). CountedType c.args.base c.saturating_add.result head.total (ty head.head) (ty_of x) s) (ap (λ v. (out-TyParts v).first) c.deref.ensures) head.ensures.gives in
-    let h2 = subst (λ (x : List SField). CountedFields c.args.base head.total fields.total (map ty fields.fields.items) (fields_of_list (map field_of x)) t1) (c.deref-in-Tuple-3.ensures.value ∙ ap (λ v. (out-TyParts v).more.items) c.deref-in-Tuple-2.ensures) fields.ensures.gives in
-    let f = subst (λ (x : List SField). c.read_fields.new.scope ≡ in_names t1 (behind t1.held.names (fields_of_list (map field_of x)))) (c.deref-in-Tuple-3.ensures.value ∙ ap (λ v. (out-TyParts v).more.items) c.deref-in-Tuple-2.ensures) fields.ensures.scope in
-    let h3 = subst (λ (x : Last). CountedLast c.args.base fields.total tail.total (ty tail.tail) (last_of x) c.read_fields.new.scope) (ap (λ v. (out-TyParts v).last) c.deref-in-Tuple-4.ensures) tail.ensures.gives in
-    let behind_name = bound s s1 c.bind.new.self p.name.word head.ensures.scope b in
+    let behind_name = bound s s1 c.bind_in_type.new.self p.name.word head.ensures.scope c.in_ok-bind_in_type-in-Tuple.ensures in
     record {
       gives = rw (ap ty_of e ∙ tuple_ty_is w.parts w.span)
-          (tuple_counted c.args.base c.args.spent w.span p.name (ty_of p.first) (fields_of_list (map field_of p.more.items)) (last_of p.last) s t1 c.read_fields.new.scope
+          (tuple_counted c.args.base c.args.spent w.span p.name (ty_of p.first) (fields_of_list (map field_of p.more.now)) (last_of p.last) s t1 c.read_fields.new.scope
           head.total fields.total tail.total (ty head.head) (map ty fields.fields.items) (ty tail.tail) (ty c.in_ok-ty-in-Tuple.ty)
-          (rw c.saturating_add.ensures at h1) behind_name h2 f h3 c.in_ok-ty-in-Tuple.ensures);
+          (rw c.saturating_add.ensures at head.ensures.gives) behind_name fields.ensures.gives fields.ensures.scope tail.ensures.gives c.in_ok-ty-in-Tuple.ensures);
       scope = ap (naming s3) (c.cut.ensures ∙ ap (λ n. with_names s3.held (drop (length s3.held.names - n) s3.held.names)) c.len-len.ensures)
-          ∙ tuple_left c.args.base c.args.spent w.span p.name (ty_of p.first) (fields_of_list (map field_of p.more.items)) (last_of p.last) s t1 c.read_fields.new.scope
+          ∙ tuple_left c.args.base c.args.spent w.span p.name (ty_of p.first) (fields_of_list (map field_of p.more.now)) (last_of p.last) s t1 c.read_fields.new.scope
           head.total fields.total tail.total (ty head.head) (map ty fields.fields.items) (ty tail.tail) (ty c.in_ok-ty-in-Tuple.ty)
-          behind_name f s3 tail.ensures.scope;
+          behind_name fields.ensures.scope s3 tail.ensures.scope;
     }
 
 pub read_tuple-returns-in_err-head-in-Tuple-clause-gives : goal.read_tuple-returns-in_err-head-in-Tuple-clause-gives
 read_tuple-returns-in_err-head-in-Tuple-clause-gives t c =
     let w = c.in-Tuple in
     let e : c.args.t.now ≡ Tuple w.parts w.span = w.is in
-    rw (ap ty_of e ∙ tuple_ty_is w.parts w.span, ← ap (λ v. (out-TyParts v).first) c.deref.ensures) (search rules)
+    rw (ap ty_of e ∙ tuple_ty_is w.parts w.span) (search rules)
 
 -- a tuple type is no sum
 abbrev is_tuple_ty : TypeForm → Type 0

@@ -26,20 +26,20 @@ known_counted ts w c spent n k v f e h = (
 pub returns-in_ok-of-in-None : goal.returns-in_ok-of-in-None
 returns-in_ok-of-in-None c =
     let s = c.args.scope.now in
-    let w = c.args.word.now in
+    let w : SWord = record { word = c.args.word.now; span = c.args.span } in
     let f = looked_up s.types.entries c.as_str-text.result.now w.word None c.as_str-text.ensures c.in-None.ensures.value in
     inr (unknown_type (abbreviations s.types) w s.count f ∙ ap (λ x. Err (UnknownType w.span x)) (sym c.as_str-text.ensures ∙ sym c.in_ok-of-in-None.ensures))
 
 pub returns-in_ok-copy-in-Some : goal.returns-in_ok-copy-in-Some
 returns-in_ok-copy-in-Some c =
     let s = c.args.scope.now in
-    known_counted (abbreviations s.types) c.args.word.now s.count c.args.spent c.saturating_add-total.result (ty c.in-Some.abbr.now.ty) _
-    (looked_up s.types.entries c.as_str-text.result.now c.args.word.now.word (Some c.in-Some.abbr.now) c.as_str-text.ensures c.in-Some.ensures.value)
+    known_counted (abbreviations s.types) (record { word = c.args.word.now; span = c.args.span }) s.count c.args.spent c.saturating_add-total.result (ty c.in-Some.abbr.now.ty) _
+    (looked_up s.types.entries c.as_str-text.result.now c.args.word.now (Some c.in-Some.abbr.now) c.as_str-text.ensures c.in-Some.ensures.value)
     (omega (arith, c.saturating_add-total.ensures, c.in-Some.abbr.now.counted)) (λ h. c.in_ok-copy-in-Some.ensures)
 
 pub returns-else-total-le1000 : goal.returns-else-total-le1000
 returns-else-total-le1000 c =
     let s = c.args.scope.now in
-    known_counted (abbreviations s.types) c.args.word.now s.count c.args.spent c.saturating_add-total.result (ty c.in-Some.abbr.now.ty) un
-    (looked_up s.types.entries c.as_str-text.result.now c.args.word.now.word (Some c.in-Some.abbr.now) c.as_str-text.ensures c.in-Some.ensures.value)
+    known_counted (abbreviations s.types) (record { word = c.args.word.now; span = c.args.span }) s.count c.args.spent c.saturating_add-total.result (ty c.in-Some.abbr.now.ty) un
+    (looked_up s.types.entries c.as_str-text.result.now c.args.word.now (Some c.in-Some.abbr.now) c.as_str-text.ensures c.in-Some.ensures.value)
     (omega (arith, c.saturating_add-total.ensures, c.in-Some.abbr.now.counted)) (λ h. absurd (omega (arith, c.if-total-le1000.false, h)))

@@ -1,4 +1,4 @@
-use Rattle.std.proofs.Common.{◌≡◌, ◌+◌, ◌++◌, drop, map}
+use Rattle.std.proofs.Common.{◌≡◌, ◌+◌, ◌≤◌, ◌++◌, drop, map}
 use Rattle.spi_tree.specs.Views.{atom_of}
 use Rattle.spi_term.specs.Spelling.{effect_nodes, stopped}
 use Rattle.spi_term.specs.View.{atom}
@@ -14,7 +14,7 @@ invariant-loop-a l =
     let all = map atom_of l.es in
     record {
       ran : run (atoms_points xs rest) l.scope.count ≡ run (atoms_points xs all) l.scope.count;
-      read : map atom l.read.items ++ effect_in l.base xs rest ≡ effect_in l.base xs all;
+      read : l.total ≤ 1000 → map atom l.read.items ++ effect_in l.base xs rest ≡ effect_in l.base xs all;
       counted : stopped (l.total + effect_nodes (effect_in l.base xs rest)) ≡ stopped (l.spent + effect_nodes (effect_in l.base xs all));
       small : stopped l.total ≡ l.total;
     }

@@ -25,12 +25,12 @@ pub first_bench-requires-clause-stands : goal.first_bench-requires-clause-stands
 first_bench-requires-clause-stands c =
     (bench_of c.args.text.now, t.stop (record { from = c.args.end; to = c.args.end }), stands (goal.at.first_bench-requires-clause-stands c).In-Ok, many (goal.at.first_bench-requires-clause-stands c).In_ok-file)
 
-pub returns-in_ok-bench-in-Ok-clause-ok : goal.returns-in_ok-bench-in-Ok-clause-ok
-returns-in_ok-bench-in-Ok-clause-ok c =
+pub returns-in-Ok-clause-ok : goal.returns-in-Ok-clause-ok
+returns-in-Ok-clause-ok c =
     let b = bench_of c.args.text.now in
     let p = t.stop (record { from = c.args.end; to = c.args.end }) in
-    let s = stands (goal.at.returns-in_ok-bench-in-Ok-clause-ok c).In-Ok in
-    let n = many (goal.at.returns-in_ok-bench-in-Ok-clause-ok c).In_ok-file in
+    let s = stands (goal.at.returns-in-Ok-clause-ok c).In-Ok in
+    let n = many (goal.at.returns-in-Ok-clause-ok c).In_ok-file in
     let e = c.in_ok-bench-in-Ok.ensures b p s n in
     let few = clean_nodes b p s.clean in (
       record {
@@ -43,8 +43,8 @@ returns-in_ok-bench-in-Ok-clause-ok c =
       s.clean,
     )
 
-pub returns-in-Err-clause-err : goal.returns-in-Err-clause-err
-returns-in-Err-clause-err c =
+pub returns-clause-err : goal.returns-clause-err
+returns-clause-err c =
     let h = subst (λ r. IfErr r (λ e. HasFirst (file_of c.in_ok-tree.tree) e)) c.in-Err.is c.in_ok-file.ensures.err in
-    let n = many (goal.at.returns-in-Err-clause-err c).In_ok-file in
+    let n = many (goal.at.returns-clause-err c).In_ok-file in
     wrong_heading (omega (arith, n, c.len-news.ensures, c.requires.few, c.args.text.now.shared.ok.0)) (subst (λ f. HasFirst f c.in-Err.fault) c.in_ok-tree.ensures.tree h)

@@ -12,9 +12,9 @@ pub type_nodes-returns-in-Tuple : goal.type_nodes-returns-in-Tuple
 type_nodes-returns-in-Tuple t c =
     let w = c.in-Tuple in
     let z = nodes_in_words c.args.sizes.now in
-    let p = out-TyParts w.parts.value in
+    let p = out-TyParts w.parts.now in
     let e : c.args.t.now ≡ Tuple w.parts w.span = w.is in
-    let a : c.type_nodes.result ≡ stopped (ty_size z (ty_of p.first)) = c.type_nodes.ensures ∙ ap (λ v. stopped (ty_size z (ty_of (out-TyParts v).first))) c.deref-in-Tuple-3.ensures in
-    let b : c.fields_nodes.result ≡ stopped (fields_size z (fields_of_list (map field_of p.more.items))) = c.fields_nodes.ensures ∙ ap (λ x. stopped (fields_size z (fields_of_list (map field_of x)))) (c.deref-in-Tuple-2.ensures.value ∙ ap (λ v. (out-TyParts v).more.items) c.deref-in-Tuple.ensures) in
-    let l : c.last_nodes-last.result ≡ stopped (last_size z (last_of p.last)) = c.last_nodes-last.ensures ∙ ap (λ v. stopped (last_size z (last_of (out-TyParts v).last))) c.deref.ensures in
+    let a : c.type_nodes.result ≡ stopped (ty_size z (ty_of p.first)) = c.type_nodes.ensures in
+    let b : c.fields_nodes.result ≡ stopped (fields_size z (fields_of_list (map field_of p.more.now))) = c.fields_nodes.ensures in
+    let l : c.last_nodes-last.result ≡ stopped (last_size z (last_of p.last)) = c.last_nodes-last.ensures in
     rw (ap ty_of e ∙ tuple_ty_is w.parts w.span) (omega (arith, a, b, l, c.saturating_add-rest.ensures, c.one_over.ensures))

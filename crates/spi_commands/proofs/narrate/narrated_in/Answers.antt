@@ -5,7 +5,7 @@ use Rattle.spi_commands.proofs.AnswerCommands.{unread_answer}
 use Rattle.spi_commands.proofs.FileRefusals.{few_lexed, stands_named}
 use Rattle.spi_commands.proofs.NarrateRefusals.{narrate_named, narrate_within}
 use Rattle.spi_commands.proofs.NarrateAnswers.{narration_of_bytes}
-use Rattle.spi_commands.proofs.narrate.narrated.Goals as goal
+use Rattle.spi_commands.proofs.narrate.narrated_in.Goals as goal
 
 pub read_narration-requires-clause-size : goal.read_narration-requires-clause-size
 read_narration-requires-clause-size c = few_lexed c.args.bytes.now c.args.tokens.now c.requires

@@ -1,7 +1,7 @@
 use Rattle.std.proofs.Common.{[], inl, inr}
 use Rattle.spi_commands.specs.Refusals.{Refuses, syntax, too_deep}
 use Rattle.spi_commands.proofs.FileRefusals.{unread_as}
-use Rattle.spi_commands.proofs.reading.read.Goals as goal
+use Rattle.spi_commands.proofs.reading.read_in.Goals as goal
 
 pub unlexed-requires-clause-fault : goal.unlexed-requires-clause-fault
 unlexed-requires-clause-fault c = rw c.in-Err-Lexical.fault-is (inr (rw c.in-Err-Lexical.field-0-is at c.in-Err-Lexical.ensures))

@@ -1,6 +1,6 @@
 use Rattle.spi_expected.proofs.Front.{begun_whole, begun_deep, begun_syntax}
-use Rattle.spi_expected.proofs.fronts.is_begun.Goals.{in-Ok, in-Err-Syntax, in-Err-TooDeep, in-Err-NoMemory}
-use Rattle.spi_expected.proofs.fronts.is_begun.Goals as goal
+use Rattle.spi_expected.proofs.fronts.is_begun_in.Goals.{in-Ok, in-Err-Syntax, in-Err-TooDeep, in-Err-NoMemory}
+use Rattle.spi_expected.proofs.fronts.is_begun_in.Goals as goal
 
 pub returns : goal.returns
 returns c = elim c.match-parse.branch [

@@ -4,7 +4,7 @@ use Rattle.spi_commands.proofs.FileRefusals.{few_lexed, stands_named}
 use Rattle.spi_commands.proofs.FileScopes.{first_is_fault}
 use Rattle.spi_commands.proofs.BenchPlaces.{bench_within, bench_named}
 use Rattle.spi_commands.proofs.BenchAnswers.{told_to}
-use Rattle.spi_commands.proofs.bench.benched.Goals as goal
+use Rattle.spi_commands.proofs.bench.benched_in.Goals as goal
 
 pub verdicts_of-requires-clause-few : goal.verdicts_of-requires-clause-few
 verdicts_of-requires-clause-few c = few_lexed c.args.bytes.now c.args.tokens.now c.requires

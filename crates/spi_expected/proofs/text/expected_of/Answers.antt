@@ -8,7 +8,7 @@ use Rattle.spi_parse.specs.Formed.{whole_file, IsFile}
 use Rattle.spi_parse.proofs.Lexed.{kinds_fit}
 use Rattle.spi_parse.proofs.OneTree.{kinds_spelled}
 use Rattle.spi_parts.proofs.Answers.{no_syntax, not_both}
-use Rattle.spi_expected.proofs.text.expected_in.Goals as goal
+use Rattle.spi_expected.proofs.text.expected_of.Goals as goal
 
 pub parse-requires-clause-words : goal.parse-requires-clause-words
 parse-requires-clause-words c = rw c.deref.ensures.value (kinds_fit _ c.in-Ok.ensures.kinds)
