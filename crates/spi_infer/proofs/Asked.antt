@@ -63,7 +63,7 @@ pub tested_or : {j : Numbered} (f g : Env → Bool) {a b r : Bool} → a ≡ b �
 tested_or {j} f g {r = r} q t = subst (λ b. IsTest j (λ e. f e || (g e && b)) r) q t
 
 -- what is asked of a type by its head
-pub nonce_cast : (j : Numbered) (t : D.Ty) {es : E.Effect} {b : Bool} → t ≡ T.Nonce es → IsTest j (λ e. good e (ty t)) b → IsTest j (λ e. cast_ok e (ty t)) b
+pub nonce_cast : (j : Numbered) (t : D.Ty) {es : Box E.Effect Global} {b : Bool} → t ≡ T.Nonce es → IsTest j (λ e. good e (ty t)) b → IsTest j (λ e. cast_ok e (ty t)) b
 nonce_cast j t {b = b} q = subst (λ t. IsTest j (λ e. good e (ty t)) b → IsTest j (λ e. cast_ok e (ty t)) b) (sym q) (λ h. record { at = h.at })
 
 pub key_fresh : (j : Numbered) (t : D.Ty) {u : Box D.Ty Global} {b : Bool} → t ≡ T.Key u → IsTest j (λ e. good e (ty t)) b → IsTest j (λ e. is_fresh (ty t) && good e (ty t)) b

@@ -1,5 +1,5 @@
 -- What is kept of the nodes stays as the store and the keys grow.
-use Rattle.std.proofs.Common.{◌≡◌, ℕ, List, [], ◌∷◌, ◌++◌, Option, Some, None, refl, sym, subst, Result, Ok, Err, IfOk}
+use Rattle.std.proofs.Common.{◌≡◌, ℕ, List, [], ◌∷◌, ◌++◌, Option, Some, None, refl, sym, subst, Result, Ok, Err, IfOk, Box, Global}
 use Rattle.std.specs.Prelude.{IfSome, IfNone, slice_get, ⊤}
 use Rattle.spi_term.specs.declared.term.Msg.{Msg}
 use Rattle.spi_term.specs.declared.term.Effect as D
@@ -68,7 +68,7 @@ paid_fits {s} (Some t) e n P Q h g f z = let w = f t h in subst (PaidFits s (Som
 paid_fits {s} None e n P Q h g f z = subst (PaidFits s None) (sym (z g)) tt
 
 -- a cast adds atoms where its type is a nonce's
-pub none_cast : (s : Store) (ks : Keys) (t : Ty) → ((e : D.Effect) → t ≡ T.Nonce e → ⊥) → HaveKeys s ks (cast_effect_of (ty t))
+pub none_cast : (s : Store) (ks : Keys) (t : Ty) → ((e : Box D.Effect Global) → t ≡ T.Nonce e → ⊥) → HaveKeys s ks (cast_effect_of (ty t))
 none_cast s ks (T.Nonce e) h = absurd (h e refl)
 none_cast s ks _ h = have_none s ks
 

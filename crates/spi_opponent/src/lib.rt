@@ -58,8 +58,8 @@ fn is_allowed(node: &Node) -> bool
         | Form::Decrypt { ty, .. }
         | Form::Cast { ty, .. }
         | Form::Fresh { ty, .. } => is_un(ty),
-        Form::Split { first, second, .. } | Form::Select { first, second, .. } => is_un(first)
-            && is_un(second),
+        Form::Split { first, second, .. } => is_un(first) && is_un(second),
+        Form::Select { first, second, .. } => is_un(first) && is_un(second),
         Form::Branch { left, right, .. } => is_un(left) && is_un(right),
     }
 }

@@ -1,11 +1,10 @@
 -- Chains of spellings as links are put behind others.
-use Rattle.std.proofs.Common.{◌≡◌, ℕ, zero, suc, ◌+◌, ◌<◌, ◌≤◌, List, [], ◌∷◌, ◌++◌, length, map, drop, get_or, refl, sym, ap, ◌∙◌, subst, arith, append_assoc}
+use Rattle.std.proofs.Common.{◌≡◌, ℕ, zero, suc, ◌+◌, ◌<◌, ◌≤◌, List, [], ◌∷◌, ◌++◌, length, map, take, get_or, refl, sym, ap, ◌∙◌, subst, arith}
 use Rattle.std.specs.Prelude.{Some, slice_get}
-use Rattle.spi_scope.specs.declared.trail.Spelled.{Spelled}
-use Rattle.std.proofs.lemmas.List.{length-append, length-map, map_push, drop_more}
+use Rattle.std.proofs.lemmas.List.{length-append, length-map, map_push}
 use Rattle.spi_scope.specs.Scope.{Names}
 use Rattle.spi_scope.specs.declared.trail.Link.{Link}
-use Rattle.spi_scope.specs.Chains.{Pair, link, spelled_pair, chain_at, longer, chains, LeadBack, all_at, AreNumbersBelow, found_names}
+use Rattle.spi_scope.specs.Chains.{Pair, link, chain_at, longer, chains, LeadBack, all_at, AreNumbersBelow, found_names}
 
 longer_push : (cs : List Names) (ls : List Pair) (l : Pair) → longer cs (ls ++ l ∷ []) ≡ longer cs ls ++ (l.word ∷ chain_at (longer cs ls) l.outer) ∷ []
 longer_push cs [] l = refl
@@ -20,7 +19,7 @@ length_longer cs (l ∷ ls) =
 pub length_chains : (ls : List Link) → length (chains (map link ls)) ≡ length ls + 1
 length_chains ls = omega (arith, length_longer ([] ∷ []) (map link ls), length-map ls link)
 
-pub chains_push : (ls new : List Link) (l : Link) → new ≡ ls ++ l ∷ [] → chains (map link new) ≡ chains (map link ls) ++ (l.word.now ∷ chain_at (chains (map link ls)) l.outer) ∷ []
+pub chains_push : (ls new : List Link) (l : Link) → new ≡ ls ++ l ∷ [] → chains (map link new) ≡ chains (map link ls) ++ (l.word ∷ chain_at (chains (map link ls)) l.outer) ∷ []
 chains_push ls new l e = ap (λ x. chains (map link x)) e ∙ ap chains (map_push link ls l) ∙ longer_push ([] ∷ []) (map link ls) (link l)
 
 lead_more : (n : ℕ) (ls : List Pair) (l : Pair) → LeadBack n ls → l.outer < n + length ls → LeadBack n (ls ++ l ∷ [])
@@ -81,20 +80,20 @@ lead_at n [] i l g h = absurd (cc)
 lead_at n (k ∷ ls) zero l g h = let same : k ≡ l = cc in let e = ap (λ (m : Pair). m.outer) same in omega (arith, h.0, e)
 lead_at n (k ∷ ls) (suc i) l g h = omega (arith, lead_at (n + 1) ls i l g h.1)
 
-get_map : (xs : List Spelled) (i : ℕ) (x : Spelled) → i < length xs → x ≡ get_or xs i x → slice_get (map spelled_pair xs) i ≡ Some (spelled_pair x)
+get_map : (xs : List Link) (i : ℕ) (x : Link) → i < length xs → x ≡ get_or xs i x → slice_get (map link xs) i ≡ Some (link x)
 get_map [] i x h e = absurd (omega arith)
-get_map (y ∷ xs) zero x h e = ap (λ z. Some (spelled_pair z)) (sym e)
+get_map (y ∷ xs) zero x h e = ap (λ z. Some (link z)) (sym e)
 get_map (y ∷ xs) (suc i) x h e = get_map xs i x (omega arith) e
 
 -- a chain by its first link
-pub chain_step : (xs : List Spelled) (at i : ℕ) (x : Spelled) → at ≡ i + 1 → i < length xs → x ≡ get_or xs i x → LeadBack 1 (map spelled_pair xs)
-    → (chain_at (chains (map spelled_pair xs)) at ≡ x.word ∷ chain_at (chains (map spelled_pair xs)) x.outer) × (x.outer < at)
+pub chain_step : (xs : List Link) (at i : ℕ) (x : Link) → at ≡ i + 1 → i < length xs → x ≡ get_or xs i x → LeadBack 1 (map link xs)
+    → (chain_at (chains (map link xs)) at ≡ x.word ∷ chain_at (chains (map link xs)) x.outer) × (x.outer < at)
 chain_step xs at i x e h q b =
     let g = get_map xs i x h q in
-    (ap found_names (longer_at ([] ∷ []) (map spelled_pair xs) i at (spelled_pair x) (omega (arith, e)) g b), omega (arith, lead_at 1 (map spelled_pair xs) i (spelled_pair x) g b, e))
+    (ap found_names (longer_at ([] ∷ []) (map link xs) i at (link x) (omega (arith, e)) g b), omega (arith, lead_at 1 (map link xs) i (link x) g b, e))
 
-pub chain_none : (xs : List Spelled) → chain_at (chains (map spelled_pair xs)) 0 ≡ []
-chain_none xs = ap found_names (longer_keeps ([] ∷ []) (map spelled_pair xs) 0 (omega arith))
+pub chain_none : (xs : List Link) → chain_at (chains (map link xs)) 0 ≡ []
+chain_none xs = ap found_names (longer_keeps ([] ∷ []) (map link xs) 0 (omega arith))
 
 pub below_or : (n : ℕ) (is : List ℕ) (j d : ℕ) → AreNumbersBelow n is → j < length is → get_or is j d < n
 below_or n [] j d b h = absurd (omega arith)
@@ -106,14 +105,12 @@ all_or cs [] j d h = absurd (omega arith)
 all_or cs (k ∷ is) zero d h = refl
 all_or cs (k ∷ is) (suc j) d h = all_or cs is j d (omega arith)
 
-abbrev pub pair_of : List ℕ → ℕ → Pair
-pair_of w n = record { word = w; outer = n }
+pub below_take : (n : ℕ) (is : List ℕ) (k : ℕ) → AreNumbersBelow n is → AreNumbersBelow n (take k is)
+below_take n is zero b = tt
+below_take n [] (suc k) b = tt
+below_take n (i ∷ is) (suc k) b = (b.0, below_take n is k b.1)
 
-pub copied_more : (new copied : List Spelled) (items : List Link) (i : ℕ) (x : Spelled) (d : Link) → new ≡ copied ++ x ∷ [] → i < length items → spelled_pair x ≡ link (get_or items i d) → map spelled_pair copied ++ map link (drop i items) ≡ map link items → map spelled_pair new ++ map link (drop (i + 1) items) ≡ map link items
-copied_more new copied items i x d n h e inv =
-    ap (λ l. map spelled_pair l ++ map link (drop (i + 1) items)) n
-    ∙ ap (λ l. l ++ map link (drop (i + 1) items)) (map_push spelled_pair copied x)
-    ∙ append_assoc (map spelled_pair copied) (spelled_pair x ∷ []) (map link (drop (i + 1) items))
-    ∙ ap (λ y. map spelled_pair copied ++ y ∷ map link (drop (i + 1) items)) e
-    ∙ ap (λ l. map spelled_pair copied ++ map link l) (sym (drop_more items i d h))
-    ∙ inv
+pub all_take : (cs : List Names) (is : List ℕ) (k : ℕ) → all_at cs (take k is) ≡ take k (all_at cs is)
+all_take cs is zero = refl
+all_take cs [] (suc k) = refl
+all_take cs (i ∷ is) (suc k) = ap (λ l. chain_at cs i ∷ l) (all_take cs is k)

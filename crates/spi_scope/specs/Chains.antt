@@ -4,7 +4,6 @@ use Rattle.std.specs.Coded.{Coded, coded_list, coded×, code_by}
 use Rattle.spi_scope.specs.Scope.{Word, Names}
 use Rattle.spi_scope.specs.Table.{coded_names}
 use Rattle.spi_scope.specs.declared.trail.Link.{Link}
-use Rattle.spi_scope.specs.declared.trail.Spelled.{Spelled}
 
 -- the chains so far, and those that were noted
 pub record Chained : Type 0 where
@@ -21,10 +20,7 @@ pub record Pair : Type 0 where
   pub outer : ℕ
 
 abbrev pub link : Link → Pair
-link l = record { word = l.word.now; outer = l.outer }
-
-abbrev pub spelled_pair : Spelled → Pair
-spelled_pair l = record { word = l.word; outer = l.outer }
+link l = record { word = l.word; outer = l.outer }
 
 abbrev pub found_names : Option Names → Names
 found_names None = []

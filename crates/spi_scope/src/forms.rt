@@ -144,8 +144,8 @@ pub fn select<'t>(
         Form::Select {
             whole,
             first,
-            equal,
-            second,
+            equal: Box::new(alloc, equal)?,
+            second: Box::new(alloc, second)?,
             body,
         },
         span,

@@ -1,7 +1,7 @@
 //! The names in scope, with a table of the innermost name of each spelling. A spelling stays in the table: where none of
 //! its names is in scope it has no number there.
 
-ghost use Rattle.std.specs.Prelude.{◌≡◌, ◌+◌, ◌-◌, ◌^◌, ◌<◌, drop, [], ◌∷◌, reverse, length, IfOk, is_some, slice_get, Some, OnOk, OnErr, IfSome};
+ghost use Rattle.std.specs.Prelude.{◌≡◌, ◌+◌, ◌-◌, ◌^◌, ◌<◌, drop, [], ◌∷◌, reverse, length, IfOk, is_some, slice_get, take, Some, OnOk, OnErr, IfSome};
 ghost use Rattle.std.specs.Str.{bytes_eq};
 ghost use Rattle.std.specs.Option.{option_flatten};
 ghost use Rattle.indexmap.specs.IndexMap.{IsUnique, get, index_map_len, with_value_at};
@@ -195,7 +195,7 @@ fn leave<'t>(innermost: &mut IndexMap<Spelling<'t>, Option<u32>>, hidden: &mut V
 pub struct Names<'t> {
     innermost: IndexMap<Spelling<'t>, Option<u32>>,
     hidden: Vec<Held<'t>>,
-    trail: Trail<'t>,
+    trail: Trail,
     guesses: Guesses,
     loose: u32,
 }
@@ -376,10 +376,18 @@ impl<'t> Names<'t> {
         Ok(texts)
     }
 
-    /// The names that were in scope at each node.
-    pub fn scopes(&self, alloc: Global) -> Result<Scopes, NoMemory>
-        ensures { IfOk result (λ scopes. scopes ≡ self.now.noted) }
+    /// How many nodes were noted.
+    pub fn nodes(&self) -> usize
+        ensures { result ≡ length self.now.noted }
     {
-        self.trail.scopes(alloc)
+        self.trail.count()
+    }
+
+    /// The names that were in scope at each of the first nodes, so many.
+    pub fn into_scopes(self, nodes: usize) -> Scopes
+        ensures { result ≡ take nodes self.entry.noted }
+    {
+        let Names { trail, .. } = self;
+        trail.into_scopes(nodes)
     }
 }

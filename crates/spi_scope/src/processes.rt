@@ -352,8 +352,8 @@ fn branch<'t>(
         Form::Branch {
             whole,
             left: left_ty,
-            on_left,
             right,
+            on_left,
             on_right,
         },
     );

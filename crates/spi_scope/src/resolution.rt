@@ -1,6 +1,6 @@
 //! The file that a tree stands for.
 
-ghost use Rattle.std.specs.Prelude.{◌≡◌, ◌⊎◌, ◌≤◌, [], ◌++◌, map, length, reverse, IfOk, IfErr, OnOk};
+ghost use Rattle.std.specs.Prelude.{◌≡◌, ◌⊎◌, ◌≤◌, [], ◌++◌, map, length, reverse, take, IfOk, IfErr, OnOk};
 ghost use Rattle.spi_tree.specs.Trees as t;
 ghost use Rattle.spi_tree.specs.Views.{proc_of, decl_of, opponent_of, schedule_of, derivation_of, file_of};
 ghost use Rattle.spi_term.specs.View.{shape_of};
@@ -30,6 +30,7 @@ use crate::processes::read_process;
 use crate::room::nodes_of;
 use crate::schedules::read_steps;
 use crate::scope::Scope;
+use crate::trail::Scopes;
 use indexmap::IndexMap;
 use spi_rules::Deriv;
 use spi_run::Step;
@@ -37,6 +38,7 @@ use spi_term::{Node, Process};
 use spi_text::Span;
 use spi_tree::{SDeriv, SProc, SStep, Tree};
 use std::alloc::Global;
+use std::mem::replace;
 
 /// The process that the nodes spell.
 fn laid_out(scope: &Scope, count: u64, nodes: Vec<Node>, p: &SProc) -> Process
@@ -101,6 +103,8 @@ fn read_opponent<'t>(
         (λ x. x.0 ≡ opponent_over (abbreviations scope.old.types) scope.old.held.names
         (opponent_of opponent.entry.now)) }
     ensures places { IfOk result (λ x. x.1.items ≡ opponent_places (opponent_of opponent.entry.now)) }
+    ensures noted { OnOk result
+        (take (length scope.old.held.noted) scope.new.held.noted ≡ scope.old.held.noted) }
     ensures few { OnOk result (scope.new.count ≤ 100000) }
 {
     match opponent {
@@ -187,7 +191,8 @@ fn read_rest<'t>(
     ensures names { OnOk result (file.new.names ≡ file.old.names) }
     ensures process { OnOk result (file.new.process ≡ file.old.process) }
     ensures process_places { OnOk result (file.new.marks.process ≡ file.old.marks.process) }
-    ensures scopes { OnOk result (file.new.marks.scopes ≡ file.old.marks.scopes) }
+    ensures noted { OnOk result
+        (take (length scope.old.held.noted) scope.new.held.noted ≡ scope.old.held.noted) }
 {
     let (opponent, places) = read_opponent(alloc, scope, &tree.opponent)?;
     put(&mut file.opponent, opponent);
@@ -236,7 +241,7 @@ fn read_body<'t>(alloc: Global, scope: &mut Scope<'t>, tree: &'t Tree) -> Result
 {
     let names = scope.held.texts(alloc)?;
     let (process, process_places) = read_part(alloc, scope, &tree.process)?;
-    let scopes = scope.held.scopes(alloc)?;
+    let nodes = scope.held.nodes();
     let mut file = File {
         version: tree.version,
         names,
@@ -249,10 +254,12 @@ fn read_body<'t>(alloc: Global, scope: &mut Scope<'t>, tree: &'t Tree) -> Result
             opponent: Vec::new(alloc),
             steps: Vec::new(alloc),
             rules: Vec::new(alloc),
-            scopes,
+            scopes: Scopes::new(alloc),
         },
     };
     read_rest(alloc, scope, tree, &mut file)?;
+    let held = replace(&mut scope.held, Names::new(alloc));
+    put(&mut file.marks.scopes, held.into_scopes(nodes));
     Ok(file)
 }
 

@@ -113,11 +113,11 @@ pub fn key(alloc: Global, total: u64, part: Ty) -> Result<Ty, AllocError>
 
 /// The type of nonces with this effect, or `Un` where there are too many nodes.
 #[inline(always)]
-pub fn nonce(total: u64, atoms: Vec<Atom>) -> Ty
-    ensures { total ≤ 1000 → ty result ≡ nonce (map atom atoms.items) }
+pub fn nonce(alloc: Global, total: u64, atoms: Vec<Atom>) -> Result<Ty, AllocError>
+    ensures { IfOk result (λ t. total ≤ 1000 → ty t ≡ nonce (map atom atoms.items)) }
 {
     if total > MOST {
-        return Ty::Un;
+        return Ok(Ty::Un);
     }
-    Ty::Nonce(Effect { atoms })
+    Ok(Ty::Nonce(Box::new(alloc, Effect { atoms })?))
 }

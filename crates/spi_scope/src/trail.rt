@@ -1,7 +1,7 @@
 //! Chains of spellings that share what they have in common.
 
-ghost use Rattle.std.specs.Prelude.{◌≡◌, ◌<◌, ◌≤◌, [], ◌∷◌, ◌++◌, map, length, reverse, OnOk, OnErr, IfOk};
-ghost use Rattle.spi_scope.specs.Chains.{chain_at, spelled_pair, chains, LeadBack};
+ghost use Rattle.std.specs.Prelude.{◌≡◌, ◌<◌, ◌≤◌, [], ◌∷◌, ◌++◌, map, length, reverse, take, OnOk, OnErr, IfOk};
+ghost use Rattle.spi_scope.specs.Chains.{chain_at, link, chains, LeadBack};
 
 use crate::NoMemory;
 use spi_text::Text;
@@ -10,31 +10,20 @@ use std::marker::Model;
 
 /// A spelling, and the chain outside it. Link i begins chain i + 1.
 #[derive(Drop)]
-pub struct Link<'t> {
-    pub word: &'t Text,
-    pub outer: u32,
-}
-
-/// A link with a spelling of its own.
-#[derive(Drop)]
-pub struct Spelled {
+pub struct Link {
     pub word: Text,
     pub outer: u32,
 }
 
 /// Chains of spellings, each with its number, and the chains that were noted. Chain 0 is empty.
-pub struct Trail<'t> {
-    links: Vec<Link<'t>>,
+#[derive(Drop)]
+pub struct Trail {
+    alloc: Global,
+    links: Vec<Link>,
     noted: Vec<u32>,
 }
 
-impl Drop for Trail<'_> {
-    fn drop(self) {
-        let Trail { links: _, noted: _ } = self;
-    }
-}
-
-impl<'t> Model for Trail<'t> {
+impl Model for Trail {
     ghost use Rattle.std.specs.Prelude.{◌+◌, ◌<◌, ◌^◌, [], ◌∷◌, map, length};
     ghost use Rattle.spi_scope.specs.Chains.{Chained, coded_chained, link, chains, all_at, AreNumbersBelow, LeadBack};
 
@@ -50,13 +39,14 @@ impl<'t> Model for Trail<'t> {
         × (length s.links.items < 2 ^ 32) };
 }
 
-impl<'t> Trail<'t> {
+impl Trail {
     /// The empty chain alone.
     pub fn new(alloc: Global) -> Self
         ensures chains { result.chains ≡ [] ∷ [] }
         ensures noted { result.noted ≡ [] }
     {
         Trail {
+            alloc,
             links: Vec::new(alloc),
             noted: Vec::new(alloc),
         }
@@ -72,7 +62,7 @@ impl<'t> Trail<'t> {
 
     /// One more chain: the spelling before an earlier chain. There is no room for 2 ^ 32 chains, and so many don't come: each is
     /// that of a binder, which has a token of its own.
-    pub fn extend(&mut self, word: &'t Text, outer: u32) -> Result<u32, NoMemory>
+    pub fn extend(&mut self, word: &Text, outer: u32) -> Result<u32, NoMemory>
         requires { outer < length self.old.chains }
         ensures number { IfOk result (λ n. n ≡ length self.old.chains) }
         ensures chains { OnOk result
@@ -83,6 +73,7 @@ impl<'t> Trail<'t> {
         if self.links.len() >= 4_294_967_294 {
             return Err(AllocError);
         }
+        let word = word.copy(self.alloc)?;
         self.links.push(Link { word, outer })?;
         Ok(self.links.len() as u32)
     }
@@ -99,27 +90,30 @@ impl<'t> Trail<'t> {
         Ok(())
     }
 
-    /// The chains that were noted, with spellings of their own.
-    pub fn scopes(&self, alloc: Global) -> Result<Scopes, NoMemory>
-        ensures { IfOk result (λ scopes. scopes ≡ self.now.noted) }
+    /// How many chains were noted.
+    pub fn count(&self) -> usize
+        ensures { result ≡ length self.now.noted }
     {
-        let mut links = Vec::with_capacity(alloc, self.links.len())?;
-        for link in &self.links {
-            let word = link.word.copy(alloc)?;
-            let outer = link.outer;
-            links.push(Spelled { word, outer })?;
-        }
-        let mut noted = Vec::with_capacity(alloc, self.noted.len())?;
-        for chain in &self.noted {
-            noted.push(*chain)?;
-        }
-        Ok(Scopes { links, noted })
+        self.noted.len()
+    }
+
+    /// The chains that were noted first, so many.
+    pub fn into_scopes(self, count: usize) -> Scopes
+        ensures { result ≡ take count self.noted }
+    {
+        let Trail {
+            links,
+            mut noted,
+            ..
+        } = self;
+        noted.truncate(count);
+        Scopes { links, noted }
     }
 }
 
 /// The names in scope at each node. A contract sees their spellings, the innermost first.
 pub struct Scopes {
-    links: Vec<Spelled>,
+    links: Vec<Link>,
     noted: Vec<u32>,
 }
 
@@ -134,19 +128,29 @@ impl Model for Scopes {
     ghost use Rattle.std.specs.Coded.{coded_list};
     ghost use Rattle.spi_scope.specs.Scope.{Names};
     ghost use Rattle.spi_scope.specs.Table.{coded_names};
-    ghost use Rattle.spi_scope.specs.Chains.{spelled_pair, chains, all_at, AreNumbersBelow, LeadBack};
+    ghost use Rattle.spi_scope.specs.Chains.{link, chains, all_at, AreNumbersBelow, LeadBack};
 
     ghost Value = { List Names };
 
     ghost coded = { coded_list coded_names };
 
-    ghost view = { λ s. all_at (chains (map spelled_pair s.links.items)) s.noted.items };
+    ghost view = { λ s. all_at (chains (map link s.links.items)) s.noted.items };
 
-    ghost invariant = { λ s. LeadBack 1 (map spelled_pair s.links.items)
+    ghost invariant = { λ s. LeadBack 1 (map link s.links.items)
         × AreNumbersBelow (length s.links.items + 1) s.noted.items };
 }
 
 impl Scopes {
+    /// The names at no node.
+    pub fn new(alloc: Global) -> Self
+        ensures { result ≡ [] }
+    {
+        Scopes {
+            links: Vec::new(alloc),
+            noted: Vec::new(alloc),
+        }
+    }
+
     /// The names in scope at a node, the outermost first, and none where the node wasn't noted.
     pub fn names_at(&self, alloc: Global, node: u32) -> Result<Vec<Text>, NoMemory>
         ensures { IfOk result (λ v. v.items ≡ reverse (chain_at self.now node)) }
@@ -160,10 +164,10 @@ impl Scopes {
 }
 
 /// The spellings of a chain, the outermost first.
-fn spellings(alloc: Global, links: &[Spelled], chain: u32) -> Result<Vec<Text>, NoMemory>
-    requires lead_back { LeadBack 1 (map spelled_pair links.now) }
+fn spellings(alloc: Global, links: &[Link], chain: u32) -> Result<Vec<Text>, NoMemory>
+    requires lead_back { LeadBack 1 (map link links.now) }
     requires within { chain ≤ length links.now }
-    ensures { IfOk result (λ v. v.items ≡ reverse (chain_at (chains (map spelled_pair links.now)) chain)) }
+    ensures { IfOk result (λ v. v.items ≡ reverse (chain_at (chains (map link links.now)) chain)) }
 {
     let mut found = Vec::new(alloc);
     let mut at = chain;

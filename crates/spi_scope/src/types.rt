@@ -125,7 +125,7 @@ fn read_nonce(
         (nonce (effect_in base scope.now.held.names (map atom_of es.now))) }
 {
     let (atoms, total) = read_atoms(alloc, scope, base, spent.saturating_add(1), es)?;
-    Ok((small::nonce(total, atoms), total))
+    Ok((small::nonce(alloc, total, atoms)?, total))
 }
 
 /// The type of an abbreviation, which is copied only where it fits.

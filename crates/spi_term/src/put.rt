@@ -98,7 +98,7 @@ fn put_ty(alloc: Global, value: &Msg, depth: u64, t: &Ty) -> Result<Ty, NoMemory
             Ty::summed(alloc, first, second)
         }
         Ty::Key(a) => Ok(Ty::Key(boxed(alloc, put_ty(alloc, value, depth, a))?)),
-        Ty::Nonce(e) => Ok(Ty::Nonce(put_effect(alloc, value, depth, e)?)),
+        Ty::Nonce(e) => Ok(Ty::Nonce(boxed(alloc, put_effect(alloc, value, depth, e))?)),
     }
 }
 

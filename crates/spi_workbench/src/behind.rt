@@ -36,8 +36,8 @@ fn opening_earlier(alloc: Global, form: &Form, n: u32) -> Result<Form, NoMemory>
         } => Form::Select {
             whole: whole.copy(alloc)?,
             first: first.copy(alloc)?,
-            equal: equal.copy(alloc)?,
-            second: second.copy(alloc)?,
+            equal: Box::new(alloc, equal.copy(alloc)?)?,
+            second: Box::new(alloc, second.copy(alloc)?)?,
             body: body.saturating_sub(n),
         },
         Form::Decrypt {
@@ -113,14 +113,14 @@ fn form_earlier(alloc: Global, form: &Form, n: u32) -> Result<Form, NoMemory>
         Form::Branch {
             whole,
             left,
-            on_left,
             right,
+            on_left,
             on_right,
         } => Form::Branch {
             whole: whole.copy(alloc)?,
             left: left.copy(alloc)?,
-            on_left: on_left.saturating_sub(n),
             right: right.copy(alloc)?,
+            on_left: on_left.saturating_sub(n),
             on_right: on_right.saturating_sub(n),
         },
         Form::Par { first, rest } => Form::Par {

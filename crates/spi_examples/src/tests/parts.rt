@@ -8,7 +8,7 @@ use super::samples::{NoMemory, TextQuestion, each};
 use bumpalo::Bump;
 use spi_lex::{LexFault, Token, is_version_2, lex};
 use spi_parse::{ParseFault, decl_at, message_at, parse, process_at, type_at};
-use spi_tree::{Room, tokens_of};
+use spi_tree::{Room, Tree, tokens_of};
 use std::alloc::Global;
 
 /// A kind of part.
@@ -129,14 +129,8 @@ fn a_fault_is_at_its_token(rt: HostRuntime) {
 #[derive(Clone, Copy)]
 struct TreeTokens;
 
-fn parsed(alloc: Global, text: &str) -> Result<Option<u64>, LexFault> {
-    if text.len() > 16_777_216 {
-        return Err(LexFault::NoMemory);
-    }
-    let end = text.len() as u32;
-    let tokens = lex(alloc, text.as_bytes())?;
-    let bump = Bump::new(alloc);
-    let parsed = parse(Room { alloc, bump: &bump }, &tokens, end);
+/// How many tokens a tree has, or the number of the fault.
+fn tokens_in(alloc: Global, parsed: Result<Tree, ParseFault>) -> Result<Option<u64>, LexFault> {
     match parsed {
         Ok(tree) => match tokens_of(alloc, &tree) {
             Ok(kinds) => Ok(Some(kinds.len() as u64)),
@@ -144,6 +138,17 @@ fn parsed(alloc: Global, text: &str) -> Result<Option<u64>, LexFault> {
         },
         Err(fault) => Ok(fault_number(fault)),
     }
+}
+
+fn parsed(alloc: Global, text: &str) -> Result<Option<u64>, LexFault> {
+    if text.len() > 16_777_216 {
+        return Err(LexFault::NoMemory);
+    }
+    let end = text.len() as u32;
+    let tokens = lex(alloc, text.as_bytes())?;
+    let bump = Bump::new(alloc);
+    let room = Room { alloc, bump: &bump };
+    tokens_in(alloc, parse(room, &tokens, end))
 }
 
 impl TextQuestion for TreeTokens {

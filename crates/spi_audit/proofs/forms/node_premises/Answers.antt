@@ -22,7 +22,7 @@ returns-in-Split-clause-answer c =
 
 pub returns-in-Select-clause-answer : goal.returns-in-Select-clause-answer
 returns-in-Select-clause-answer c =
-    prefix_answers c.args.judge.now c.of_select.new.judge c.args.rule c.args.node.now.scope (Selects (message c.in-Select.whole) (ty c.in-Select.first) (message c.in-Select.equal) (ty c.in-Select.second)) c.in-Select.body (shape_of c.args.node.now) c.of_select.result (ap (shape_of_form c.args.node.now.scope) c.in-Select.is) c.of_select.ensures.answer
+    prefix_answers c.args.judge.now c.of_select.new.judge c.args.rule c.args.node.now.scope (Selects (message c.in-Select.whole) (ty c.in-Select.first) (message c.in-Select.equal.value) (ty c.in-Select.second.value)) c.in-Select.body (shape_of c.args.node.now) c.of_select.result (ap (shape_of_form c.args.node.now.scope) c.in-Select.is) (rw (c.deref.ensures, c.deref-in-Select.ensures) at c.of_select.ensures.answer)
 
 pub returns-in-Branch-clause-answer : goal.returns-in-Branch-clause-answer
 returns-in-Branch-clause-answer c =

@@ -33,7 +33,7 @@ pub returns-in-Select-clause-answer : goal.returns-in-Select-clause-answer
 returns-in-Select-clause-answer c =
     let q = ap (shape_of_form c.args.node.now.scope) c.in-Select.is in
     let w = subst (λ x. AreTermsOf c.args.judge.now x c.args.terms) q c.requires.terms in
-    fine_as c.args.judge.now q c.is_select_ok.result (if_ok c.is_select_ok.result (λ b f. f _ _ w.message w.other) c.is_select_ok.ensures.answer)
+    fine_as c.args.judge.now q c.is_select_ok.result (if_ok c.is_select_ok.result (λ b f. f _ _ w.message w.other) (rw c.deref.ensures at c.is_select_ok.ensures.answer))
 
 pub returns-in-Branch-clause-answer : goal.returns-in-Branch-clause-answer
 returns-in-Branch-clause-answer c =

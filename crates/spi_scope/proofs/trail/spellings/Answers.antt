@@ -1,5 +1,5 @@
 use Rattle.std.proofs.Common.{◌≡◌, ◌++◌, ◌∷◌, [], ◌-◌, map, reverse, sym, ap, ◌∙◌, arith, append_assoc, append-nil}
-use Rattle.spi_scope.specs.Chains.{spelled_pair, chains, chain_at}
+use Rattle.spi_scope.specs.Chains.{link, chains, chain_at}
 use Rattle.spi_scope.proofs.Trails.{chain_step, chain_none}
 use Rattle.spi_scope.proofs.trail.spellings.Goals as goal
 
@@ -10,7 +10,7 @@ loop-at-smaller c =
 pub loop-at-preserved : goal.loop-at-preserved
 loop-at-preserved c =
     let st = chain_step c.args.links.now c.loop-at.at (c.loop-at.at - 1) c.index-links-at.result (omega arith) (omega arith) c.index-links-at.is c.requires.lead_back in
-    let cs = chains (map spelled_pair c.args.links.now) in
+    let cs = chains (map link c.args.links.now) in
     let found = c.loop-at.found.items in
     record {
       read =
@@ -23,7 +23,7 @@ loop-at-preserved c =
 
 pub returns : goal.returns
 returns c =
-    let cs = chains (map spelled_pair c.args.links.now) in
+    let cs = chains (map link c.args.links.now) in
     let found = c.loop-at.found.items in
     let z : c.loop-at.at ≡ 0 = omega arith in
     c.reverse.ensures.items

@@ -36,7 +36,7 @@ returns-in_ok-id-in-Key-clause-at t c = rw (c.in-Key.is, ← c.deref-in-Key.ensu
 pub returns-in_ok-id-in-Nonce-clause-at : goal.returns-in_ok-id-in-Nonce-clause-at
 returns-in_ok-id-in-Nonce-clause-at t c =
     let e = c.in_ok-place-in-Nonce.ensures.at in
-    rw c.in-Nonce.is (made c.in_ok-id-in-Nonce.ensures.kept (nonce_node e.1 e.2) c.in_ok-id-in-Nonce.ensures.at)
+    rw (c.in-Nonce.is, ← c.deref-in-Nonce.ensures) (made c.in_ok-id-in-Nonce.ensures.kept (nonce_node e.1 e.2) c.in_ok-id-in-Nonce.ensures.at)
 
 pub returns-in_ok-id-in-Un-clause-adds : goal.returns-in_ok-id-in-Un-clause-adds
 returns-in_ok-id-in-Un-clause-adds t c =
@@ -72,4 +72,4 @@ pub returns-in_ok-id-in-Nonce-clause-adds : goal.returns-in_ok-id-in-Nonce-claus
 returns-in_ok-id-in-Nonce-clause-adds t c =
     let e = c.in_ok-place-in-Nonce.ensures in
     let p = c.in_ok-id-in-Nonce.ensures in
-    rw c.in-Nonce.is (adds_nonce e.adds e.types p.kept p.messages (put_node _ p.kept (nonce_node e.at.1 e.at.2) p.at p.grows))
+    rw (c.in-Nonce.is, ← c.deref-in-Nonce.ensures) (adds_nonce e.adds e.types p.kept p.messages (put_node _ p.kept (nonce_node e.at.1 e.at.2) p.at p.grows))
