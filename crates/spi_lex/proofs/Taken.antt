@@ -23,7 +23,7 @@ use Rattle.spi_lex.proofs.Lexed.{same_bytes, from_leads}
 use Rattle.spi_lex.proofs.Left.{shape_part, one_shape, left_gap, left_lexeme, left_refused, left_none, left_empty}
 
 -- the longest part stands at the front
-front_from_longest : (text : List ℕ) (shape : Shape) (n : ℕ) → IsUtf8 text → IsLongest text n → IsShape shape (take n text) → IsFront text shape n
+pub front_from_longest : (text : List ℕ) (shape : Shape) (n : ℕ) → IsUtf8 text → IsLongest text n → IsShape shape (take n text) → IsFront text shape n
 front_from_longest text shape n u l s =
     let some : 0 < length (take n text) = (part_of (take n text) (shape_part shape (take n text) s)).0 in
     let len : length (take n text) ≡ n = length-take-le n text l.within in
@@ -37,22 +37,22 @@ front_from_longest text shape n u l s =
     ]
 
 -- the shape of a lexeme
-abbrev shape_of : Lexeme → Shape
+abbrev pub shape_of : Lexeme → Shape
 shape_of (identifier name) = shapes.Identifier
 shape_of (number value) = shapes.Number
 shape_of (mark m) = shapes.Sign m
 
-shape_spelled : (lexeme : Lexeme) (bytes : List ℕ) → SpellsLexeme lexeme bytes → IsShape (shape_of lexeme) bytes
+pub shape_spelled : (lexeme : Lexeme) (bytes : List ℕ) → SpellsLexeme lexeme bytes → IsShape (shape_of lexeme) bytes
 shape_spelled (identifier name) bytes s = (s.0, refl)
 shape_spelled (number value) bytes s = (s.0, refl)
 shape_spelled (mark m) bytes s = s
 
-lexeme_spelled : (lexeme : Lexeme) (bytes : List ℕ) → SpellsLexeme lexeme bytes → lexeme_of (shape_of lexeme) bytes ≡ Some lexeme
+pub lexeme_spelled : (lexeme : Lexeme) (bytes : List ℕ) → SpellsLexeme lexeme bytes → lexeme_of (shape_of lexeme) bytes ≡ Some lexeme
 lexeme_spelled (identifier name) bytes s = ap (λ (bs : List ℕ). Some (identifier bs)) (sym s.1)
 lexeme_spelled (number value) bytes s = ap (λ (v : ℕ). Some (number v)) (sym s.1)
 lexeme_spelled (mark m) bytes s = refl
 
-allowed : (lexeme : Lexeme) → IsAllowed lexeme → is_allowed lexeme ≡ true
+pub allowed : (lexeme : Lexeme) → IsAllowed lexeme → is_allowed lexeme ≡ true
 allowed (identifier name) a = le-leb (length name) 255 a
 allowed (number value) a = lt-ltb value _ a
 allowed (mark m) a = refl

@@ -84,6 +84,10 @@ left_of later at text = left (length text) later at text
 abbrev pub tokens_in : List ℕ → List Token
 tokens_in text = left_of (is_version_2 (kinds_of (left_of false 0 text))) 0 text
 
+-- whether the words of version 2 are reserved in a text
+abbrev pub later_in : List ℕ → Bool
+later_in text = is_version_2 (kinds_of (left_of false 0 text))
+
 -- gaps alone lead to the end of a text
 abbrev pub OnlyGaps : List ℕ → Type 0
 OnlyGaps text = (at : ℕ) × (to : ℕ) × Leads at text [] to []

@@ -5,7 +5,7 @@ ghost use Rattle.std.specs.Prelude.{◌≡◌, ◌+◌, ◌≤◌, false, length
 use crate::lexer::NAME_BYTES;
 use crate::scan::{Shape, after_blanks, front, mark_of};
 use crate::words::reserved_of;
-use crate::{Mark, Reserved};
+use crate::{Kind, Mark, Reserved};
 
 /// What stands next in a text: a token, whose word is left where it stands, or nothing that gives one.
 #[derive(Clone, Copy)]
@@ -47,6 +47,18 @@ impl<'t> Seen<'t> {
         match reserved_of(later, word) {
             Some(reserved) => Seen::Reserved(reserved),
             None => Seen::Word(word),
+        }
+    }
+
+    /// What a token is.
+    pub fn of(kind: &'t Kind) -> Seen<'t>
+        ensures { seen_kind result ≡ Some kind.now }
+    {
+        match kind {
+            Kind::Word(word) => Seen::Word(word.as_str()),
+            Kind::Reserved(word) => Seen::Reserved(*word),
+            Kind::Number(number) => Seen::Number(*number),
+            Kind::Mark(mark) => Seen::Mark(*mark),
         }
     }
 
@@ -105,6 +117,31 @@ impl<'t> Words<'t> {
             words.advance();
         }
         words
+    }
+
+    /// The tokens of the rest of a text, which stands at this offset, the first one next. `later` is whether the words of
+    /// version 2 are reserved.
+    pub fn behind(rest: &'t str, at: u32, later: bool) -> Words<'t>
+        requires { at + length rest.now ≤ 16_777_216 }
+        ensures { tokens_left result ≡ left_of later at rest.now }
+    {
+        let mut words = Words {
+            kind: Seen::Nothing,
+            from: 0,
+            to: 0,
+            rest,
+            at,
+            later,
+        };
+        words.advance();
+        words
+    }
+
+    /// Whether the words of version 2 are reserved.
+    pub fn is_later(&self) -> bool
+        ensures { result ≡ self.now.later }
+    {
+        self.later
     }
 
     /// Nothing yet, and the whole text behind it.
