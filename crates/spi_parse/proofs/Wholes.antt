@@ -40,7 +40,7 @@ untok_tok (t ∷ ts) = ap (λ (l : List Token). t ∷ l) (untok_tok ts)
 same_toks : (a b : List Token) → map tok a ≡ map tok b → a ≡ b
 same_toks a b e = sym (untok_tok a) ∙ ap (map untok) e ∙ untok_tok b
 
-front_of : (l : List Token) (pre : List Tok) (r : List Token) → map tok l ≡ pre ++ map tok r → (p : List Token) × (l ≡ p ++ r) × (map tok p ≡ pre)
+pub front_of : (l : List Token) (pre : List Tok) (r : List Token) → map tok l ≡ pre ++ map tok r → (p : List Token) × (l ≡ p ++ r) × (map tok p ≡ pre)
 front_of l [] r e = ([], same_toks l r e, refl)
 front_of [] (x ∷ pre) r e = absurd cc
 front_of (t ∷ l) (x ∷ pre) r e =

@@ -1,5 +1,5 @@
 -- What a cursor is as a state, and what stands between the table and the code.
-use Rattle.std.specs.Prelude.{Bool, ℕ, ◌+◌, List, [], ◌∷◌, map, Option, Some, None, Result, Ok, Err}
+use Rattle.std.specs.Prelude.{◌≡◌, Bool, ℕ, ◌+◌, ◌≤◌, List, [], ◌∷◌, length, map, drop, Option, Some, None, Result, Ok, Err}
 use denote.Ref.{Bor}
 use Rattle.spi_text.specs.declared.lines.Span.{Span}
 use Rattle.spi_lex.specs.declared.token.Kind.TheVariants as K
@@ -39,6 +39,10 @@ abbrev pub tokens_in : Reader → List Token
 tokens_in r =
     tokens_from (seen_kind r.words.kind) (record { from = r.words.from; to = r.words.to })
     (behind_next r.list r.words)
+
+-- these tokens are those from some number on that isn't before this one
+abbrev pub IsBehind : List Token → ℕ → List Token → Type 0
+IsBehind all from left = (n : ℕ) × (from ≤ n) × (n ≤ length all) × (left ≡ drop n all)
 
 abbrev pub state_of : Reader → State
 state_of r = record { end = r.end; rest = map tok (tokens_in r) }

@@ -1,21 +1,22 @@
 //! A place between tokens.
 
-ghost use Rattle.std.specs.Prelude.{◌≡◌, ◌≤◌, ◌<◌, [], ◌∷◌, true, false, map, Some, length, IsTrue, IsFalse, MatchResult, IfOk};
+ghost use Rattle.std.specs.Prelude.{◌≡◌, ◌≤◌, ◌<◌, [], ◌∷◌, true, false, map, drop, length, IsTrue, IsFalse, MatchResult, IfOk};
 ghost use Rattle.spi_parse.specs.declared.fault.Stop.TheVariants as stops;
 ghost use Rattle.spi_parse.specs.declared.fault.Fault.TheVariants.{Syntax, TooDeep};
 ghost use Rattle.spi_parse.specs.Tokens.{tok};
-ghost use Rattle.spi_lex.specs.Reader.{seen_kind};
 ghost use Rattle.spi_lex.specs.Lexing.{kinds_of};
 ghost use Rattle.spi_lex.specs.Left.{left_of, tokens_in};
 ghost use Rattle.spi_lex.specs.Writing.{AreKinds};
-ghost use Rattle.spi_parse.specs.Places.{state_of, behind, past};
+ghost use Rattle.spi_lex.specs.Numbered.{listed};
+ghost use Rattle.spi_lex.specs.Places.{start_of};
+ghost use Rattle.spi_parse.specs.Places.{state_of, behind, past, tokens_in as left_in};
 ghost use Rattle.spi_parse.specs.Seen.{tok_of};
 ghost use Rattle.spi_parse.specs.Table.{over, word_at};
 
 use crate::NoMemory;
 use crate::fault::{Fault, Stop};
 use crate::seen::{Lexeme, Seen};
-use spi_lex::{Kind, Seen as Next, Token, Words};
+use spi_lex::{Rest, Seen as Next, Token, Tokens, Words};
 use spi_text::{Span, Text};
 use spi_tree::SWord;
 use std::alloc::Global;
@@ -27,18 +28,6 @@ pub struct Reader<'t> {
     words: Words<'t>,
     pub end: u32,
     list: Option<&'t [Token]>,
-}
-
-/// What a token is.
-fn next_of(kind: &Kind) -> Next<'_>
-    ensures { seen_kind result ≡ Some kind.now }
-{
-    match kind {
-        Kind::Word(word) => Next::Word(word.as_str()),
-        Kind::Reserved(word) => Next::Reserved(*word),
-        Kind::Number(number) => Next::Number(*number),
-        Kind::Mark(mark) => Next::Mark(*mark),
-    }
 }
 
 impl<'t> Reader<'t> {
@@ -68,6 +57,31 @@ impl<'t> Reader<'t> {
         }
     }
 
+    /// The tokens from this number on, before the first of them.
+    pub fn behind(tokens: &Tokens<'t>, from: u32) -> Reader<'t>
+        requires { from ≤ length (listed tokens.now) }
+        ensures { state_of result ≡ record { end = 0; rest = map tok (drop from (listed tokens.now)) } }
+    {
+        match tokens.from(from) {
+            Rest::List(list) => Reader::of(list),
+            Rest::Text(words) => Reader {
+                words,
+                end: 0,
+                list: None,
+            },
+        }
+    }
+
+    /// Where the next token begins.
+    pub fn start(&self) -> Option<u32>
+        ensures { result ≡ start_of (left_in self.now) }
+    {
+        match self.words.kind {
+            Next::Nothing => None,
+            _ => Some(self.words.from),
+        }
+    }
+
     /// Takes the token behind the next one from where it comes.
     #[inline(always)]
     fn load(&mut self)
@@ -76,7 +90,7 @@ impl<'t> Reader<'t> {
         match self.list {
             None => self.words.advance(),
             Some([first, rest @ ..]) => {
-                self.words.kind = next_of(&first.kind);
+                self.words.kind = Next::of(&first.kind);
                 self.words.from = first.span.from;
                 self.words.to = first.span.to;
                 self.list = Some(rest);

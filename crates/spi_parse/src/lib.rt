@@ -24,7 +24,9 @@ mod whole;
 pub use bytes::parse_bytes;
 pub use fault::{ByteFault, ParseFault};
 pub use laws::one_placed_tree;
-pub use parts::{decl_at, message_at, one_tree, process_at, type_at};
+pub use parts::{
+    decl_at, decl_in, message_at, message_in, one_tree, process_at, process_in, type_at, type_in,
+};
 use std::alloc::AllocError;
 pub use whole::parse;
 

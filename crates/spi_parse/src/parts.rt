@@ -1,7 +1,8 @@
 //! The parts of files, read by themselves.
 
-ghost use Rattle.std.specs.Prelude.{◌≡◌, ◌≤◌, ◌⊎◌, ◌==◌, ◌-◌, length, drop, Ok, Err, MatchResult};
+ghost use Rattle.std.specs.Prelude.{◌≡◌, ◌≤◌, ◌⊎◌, ◌==◌, ◌-◌, length, Ok, Err, IfOk, MatchResult};
 ghost use Rattle.spi_lex.specs.Lexing.{kinds_of};
+ghost use Rattle.spi_lex.specs.Numbered.{listed};
 ghost use Rattle.spi_tree.specs.Trees.{File};
 ghost use Rattle.spi_tree.specs.Pieces.{tokens_of};
 ghost use Rattle.spi_tree.specs.Formed.{AreWordsFit};
@@ -9,6 +10,7 @@ ghost use Rattle.spi_tree.specs.Views.{decl_of, ty_of, msg_of, proc_of};
 ghost use Rattle.spi_parse.specs.Bare.{bare_file};
 ghost use Rattle.spi_parse.specs.Exact.{Reads};
 ghost use Rattle.spi_parse.specs.Faults.{fault_of_stop};
+ghost use Rattle.spi_parse.specs.Places.{IsBehind, tokens_in as left_in};
 ghost use Rattle.spi_parse.specs.Formed.{IsFile, whole_decl, whole_type, whole_message, whole_process, IsWholeDecl, IsWholeType, IsWholeMessage, IsWholeProcess};
 
 use crate::ParseFault;
@@ -18,7 +20,7 @@ use crate::fault::{Fault, Stop};
 use crate::messages::message;
 use crate::processes::process;
 use crate::types::read_type;
-use spi_lex::Token;
+use spi_lex::{Token, Tokens};
 use spi_tree::{Decl, Room, SMsg, SProc, STy};
 
 /// The fault by the number of its token, among so many.
@@ -37,19 +39,36 @@ pub fn fault_of(count: usize, stop: Stop) -> ParseFault
     }
 }
 
-/// What reading answered, with the number of the token behind the part, or the fault by the number of its token.
+/// The number of the token that comes next, where it isn't before that of number `from`.
+fn number_behind(tokens: &Tokens<'_>, from: u32, at: &Reader<'_>) -> u32
+    requires few { length (listed tokens.now) ≤ 16_777_216 }
+    requires start { from ≤ length (listed tokens.now) }
+    requires behind { IsBehind (listed tokens.now) from (left_in at.now) }
+    ensures { result ≡ length (listed tokens.now) - length (left_in at.now) }
+{
+    match tokens {
+        Tokens::List(list) => list.len().saturating_sub(at.left()) as u32,
+        Tokens::Text(text) => text.number_of(from, at.start()),
+    }
+}
+
+/// What reading answered from number `from` on, with the number of the token behind the part, or the fault by the number of
+/// its token.
 fn by_number<X>(
-    tokens: &[Token],
+    tokens: &Tokens<'_>,
+    from: u32,
     answer: Result<X, Stop>,
-    left: usize,
+    at: &Reader<'_>,
 ) -> Result<(X, u32), ParseFault>
-    requires { length tokens.now ≤ 16_777_216 }
-    ensures { MatchResult answer (λ x. result ≡ Ok (x, length tokens.now - left))
-        (λ e. result ≡ Err (fault_of_stop (length tokens.now) e)) }
+    requires few { length (listed tokens.now) ≤ 16_777_216 }
+    requires start { from ≤ length (listed tokens.now) }
+    requires behind { IfOk answer (λ x. IsBehind (listed tokens.now) from (left_in at.now)) }
+    ensures { MatchResult answer (λ x. result ≡ Ok (x, length (listed tokens.now) - length (left_in at.now)))
+        (λ e. result ≡ Err (fault_of_stop (length (listed tokens.now)) e)) }
 {
     match answer {
-        Ok(part) => Ok((part, tokens.len().saturating_sub(left) as u32)),
-        Err(stop) => Err(fault_of(tokens.len(), stop)),
+        Ok(part) => Ok((part, number_behind(tokens, from, at))),
+        Err(stop) => Err(fault_of(tokens.count() as usize, stop)),
     }
 }
 
@@ -71,9 +90,25 @@ pub fn decl_at<'b>(
     requires words { AreWordsFit (version == 2) (kinds_of tokens.now) }
     ensures { Reads decl_of whole_decl (IsWholeDecl (version == 2)) result tokens.now from }
 {
-    let mut at = Reader::of(&tokens[from as usize..]);
+    decl_in(room, &Tokens::List(tokens), from, version)
+}
+
+/// The same, of a list or of a text.
+pub fn decl_in<'b>(
+    room: Room<'b>,
+    tokens: &Tokens<'_>,
+    from: u32,
+    version: u32,
+) -> Result<(Decl<'b>, u32), ParseFault>
+    requires size { length (listed tokens.now) ≤ 16_777_216 }
+    requires start { from ≤ length (listed tokens.now) }
+    requires known { (version ≡ 1) ⊎ (version ≡ 2) }
+    requires words { AreWordsFit (version == 2) (kinds_of (listed tokens.now)) }
+    ensures { Reads decl_of whole_decl (IsWholeDecl (version == 2)) result (listed tokens.now) from }
+{
+    let mut at = Reader::behind(tokens, from);
     let answer = declaration(room, &mut at, version == 2);
-    by_number(tokens, answer, at.left())
+    by_number(tokens, from, answer, &at)
 }
 
 /// The type that the tokens from number `from` on begin with, in a text of the version, and the number of the token
@@ -94,9 +129,25 @@ pub fn type_at<'b>(
     requires words { AreWordsFit (version == 2) (kinds_of tokens.now) }
     ensures { Reads ty_of whole_type (IsWholeType (version == 2)) result tokens.now from }
 {
-    let mut at = Reader::of(&tokens[from as usize..]);
+    type_in(room, &Tokens::List(tokens), from, version)
+}
+
+/// The same, of a list or of a text.
+pub fn type_in<'b>(
+    room: Room<'b>,
+    tokens: &Tokens<'_>,
+    from: u32,
+    version: u32,
+) -> Result<(STy<'b>, u32), ParseFault>
+    requires size { length (listed tokens.now) ≤ 16_777_216 }
+    requires start { from ≤ length (listed tokens.now) }
+    requires known { (version ≡ 1) ⊎ (version ≡ 2) }
+    requires words { AreWordsFit (version == 2) (kinds_of (listed tokens.now)) }
+    ensures { Reads ty_of whole_type (IsWholeType (version == 2)) result (listed tokens.now) from }
+{
+    let mut at = Reader::behind(tokens, from);
     let answer = read_type(room, &mut at, version == 2, 1);
-    by_number(tokens, answer, at.left())
+    by_number(tokens, from, answer, &at)
 }
 
 /// The message that the tokens from number `from` on begin with, in a text of the version, and the number of the
@@ -117,9 +168,25 @@ pub fn message_at<'b>(
     requires words { AreWordsFit (version == 2) (kinds_of tokens.now) }
     ensures { Reads msg_of whole_message (IsWholeMessage (version == 2)) result tokens.now from }
 {
-    let mut at = Reader::of(&tokens[from as usize..]);
+    message_in(room, &Tokens::List(tokens), from, version)
+}
+
+/// The same, of a list or of a text.
+pub fn message_in<'b>(
+    room: Room<'b>,
+    tokens: &Tokens<'_>,
+    from: u32,
+    version: u32,
+) -> Result<(SMsg<'b>, u32), ParseFault>
+    requires size { length (listed tokens.now) ≤ 16_777_216 }
+    requires start { from ≤ length (listed tokens.now) }
+    requires known { (version ≡ 1) ⊎ (version ≡ 2) }
+    requires words { AreWordsFit (version == 2) (kinds_of (listed tokens.now)) }
+    ensures { Reads msg_of whole_message (IsWholeMessage (version == 2)) result (listed tokens.now) from }
+{
+    let mut at = Reader::behind(tokens, from);
     let answer = message(room, &mut at, version == 2);
-    by_number(tokens, answer, at.left())
+    by_number(tokens, from, answer, &at)
 }
 
 /// The process that the tokens from number `from` on begin with, in a text of the version, and the number of the
@@ -140,9 +207,25 @@ pub fn process_at<'b>(
     requires words { AreWordsFit (version == 2) (kinds_of tokens.now) }
     ensures { Reads proc_of whole_process (IsWholeProcess (version == 2)) result tokens.now from }
 {
-    let mut at = Reader::of(&tokens[from as usize..]);
+    process_in(room, &Tokens::List(tokens), from, version)
+}
+
+/// The same, of a list or of a text.
+pub fn process_in<'b>(
+    room: Room<'b>,
+    tokens: &Tokens<'_>,
+    from: u32,
+    version: u32,
+) -> Result<(SProc<'b>, u32), ParseFault>
+    requires size { length (listed tokens.now) ≤ 16_777_216 }
+    requires start { from ≤ length (listed tokens.now) }
+    requires known { (version ≡ 1) ⊎ (version ≡ 2) }
+    requires words { AreWordsFit (version == 2) (kinds_of (listed tokens.now)) }
+    ensures { Reads proc_of whole_process (IsWholeProcess (version == 2)) result (listed tokens.now) from }
+{
+    let mut at = Reader::behind(tokens, from);
     let answer = process(room, &mut at, version == 2, 0);
-    by_number(tokens, answer, at.left())
+    by_number(tokens, from, answer, &at)
 }
 
 /// Two formed trees with the same tokens are equal up to spans.
