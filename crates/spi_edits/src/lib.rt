@@ -7,5 +7,5 @@ mod reading;
 mod text;
 
 pub use laws::one_bench;
-pub use reading::read_bench;
+pub use reading::{bench_in, read_bench};
 pub use text::{BenchText, Edit};

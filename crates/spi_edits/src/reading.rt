@@ -1,6 +1,7 @@
 //! Whole benches.
 
 ghost use Rattle.std.specs.Prelude.{◌≡◌, ◌≤◌, length};
+ghost use Rattle.spi_lex.specs.Numbered.{listed};
 ghost use Rattle.spi_lex.specs.Lexing.{kinds_of, is_version_2};
 ghost use Rattle.spi_tree.specs.Formed.{AreWordsFit};
 ghost use Rattle.spi_edits.specs.Reads.{ParsesBench};
@@ -10,20 +11,20 @@ ghost use Rattle.spi_edits.specs.Views.{bench_of};
 use crate::edits::Edits;
 use crate::text::BenchText;
 use spi_heading::{Heading, heading_at, parts_at, span_between};
-use spi_lex::Token;
+use spi_lex::{Token, Tokens};
 use spi_parse::ParseFault;
 use spi_text::Span;
 use spi_tree::Room;
 
 /// From the start of the first token to the end of the last; the empty span at 0 where there is none.
-fn whole_span(tokens: &[Token]) -> Span
-    requires size { length tokens.now ≤ 16_777_216 }
-    ensures { result ≡ span_of_all tokens.now }
+fn whole_span(tokens: &Tokens<'_>) -> Span
+    requires size { length (listed tokens.now) ≤ 16_777_216 }
+    ensures { result ≡ span_of_all (listed tokens.now) }
 {
-    if tokens.is_empty() {
+    if tokens.count() == 0 {
         Span { from: 0, to: 0 }
     } else {
-        span_between(tokens, 0, tokens.len() as u32)
+        span_between(tokens, 0, tokens.count())
     }
 }
 
@@ -37,6 +38,15 @@ pub fn read_bench<'b>(room: Room<'b>, tokens: &[Token]) -> Result<BenchText<'b>,
     requires size { length tokens.now ≤ 16_777_216 }
     requires words { AreWordsFit (is_version_2 (kinds_of tokens.now)) (kinds_of tokens.now) }
     ensures { ParsesBench bench_of result tokens.now }
+{
+    bench_in(room, &Tokens::List(tokens))
+}
+
+/// The same, of the tokens of a list or of a text.
+pub fn bench_in<'b>(room: Room<'b>, tokens: &Tokens<'_>) -> Result<BenchText<'b>, ParseFault>
+    requires size { length (listed tokens.now) ≤ 16_777_216 }
+    requires words { AreWordsFit (is_version_2 (kinds_of (listed tokens.now))) (kinds_of (listed tokens.now)) }
+    ensures { ParsesBench bench_of result (listed tokens.now) }
 {
     let (heading, start) = heading_at(room, tokens)?;
     let Heading {

@@ -1,12 +1,14 @@
 //! Single tokens, by their number.
 
-ghost use Rattle.std.specs.Prelude.{◌≡◌, ◌+◌, ◌≤◌, ◌<◌, ◌↔◌, IsTrue, if◌then◌else◌, length, IfOk, Ok, Err};
+ghost use Rattle.std.specs.Prelude.{◌≡◌, ◌+◌, ◌≤◌, ◌<◌, ◌↔◌, IsTrue, if◌then◌else◌, length, IfOk, Some, Ok, Err};
+ghost use Rattle.spi_lex.specs.Numbered.{listed};
+ghost use Rattle.spi_lex.specs.Reader.{seen_kind};
 ghost use Rattle.spi_lex.specs.declared.token.Kind.TheVariants as kinds;
 ghost use Rattle.spi_parse.specs.declared.fault.ParseFault.TheVariants as faults;
 ghost use Rattle.spi_heading.specs.Spans.{span_over};
 ghost use Rattle.spi_heading.specs.Taking.{IsThere, TakesOneToken, TakesWord, ReadsVersion};
 
-use spi_lex::{Kind, Mark, Reserved, Token};
+use spi_lex::{Mark, Reserved, Seen, Tokens};
 use spi_parse::ParseFault;
 use spi_text::{Span, Text};
 use spi_tree::SWord;
@@ -15,59 +17,69 @@ use std::alloc::Global;
 /// What is read from a token on, with the number of the token behind it, or the fault.
 pub type ReadPart<T> = Result<(T, u32), ParseFault>;
 
-fn is_mark(kind: &Kind, mark: Mark) -> bool
-    ensures { IsTrue result ↔ kind.now ≡ kinds.Mark mark }
+fn is_mark(kind: Seen<'_>, mark: Mark) -> bool
+    ensures { IsTrue result ↔ seen_kind kind.entry ≡ Some (kinds.Mark mark) }
 {
     match kind {
-        Kind::Mark(found) => *found == mark,
+        Seen::Mark(found) => found == mark,
         _ => false,
     }
 }
 
-fn is_reserved(kind: &Kind, word: Reserved) -> bool
-    ensures { IsTrue result ↔ kind.now ≡ kinds.Reserved word }
+fn is_reserved(kind: Seen<'_>, word: Reserved) -> bool
+    ensures { IsTrue result ↔ seen_kind kind.entry ≡ Some (kinds.Reserved word) }
 {
     match kind {
-        Kind::Reserved(found) => *found == word,
+        Seen::Reserved(found) => found == word,
         _ => false,
     }
 }
 
-fn is_spelled(kind: &Kind, spelling: &str) -> bool
-    ensures { IsTrue result ↔ kind.now ≡ kinds.Word spelling.now }
+fn is_spelled(kind: Seen<'_>, spelling: &str) -> bool
+    ensures { IsTrue result ↔ seen_kind kind.entry ≡ Some (kinds.Word spelling.now) }
 {
     match kind {
-        Kind::Word(word) => word.as_str() == spelling,
+        Seen::Word(word) => word == spelling,
         _ => false,
+    }
+}
+
+/// Whether there is a token of this number.
+pub fn token_at(tokens: &Tokens<'_>, at: u32) -> bool
+    ensures { IsTrue result ↔ at < length (listed tokens.now) }
+{
+    match tokens.get(at) {
+        Some(_) => true,
+        None => false,
     }
 }
 
 /// Whether the token of this number is the mark.
-pub fn mark_at(tokens: &[Token], at: u32, mark: Mark) -> bool
-    ensures { IsTrue result ↔ IsThere tokens.now at (kinds.Mark mark) }
+pub fn mark_at(tokens: &Tokens<'_>, at: u32, mark: Mark) -> bool
+    ensures { IsTrue result ↔ IsThere (listed tokens.now) at (kinds.Mark mark) }
 {
-    match tokens.get(at as usize) {
-        Some(token) => is_mark(&token.kind, mark),
+    match tokens.get(at) {
+        Some(token) => is_mark(token.kind, mark),
         None => false,
     }
 }
 
 /// Whether the token of this number is the reserved word.
-pub fn reserved_at(tokens: &[Token], at: u32, word: Reserved) -> bool
-    ensures { IsTrue result ↔ IsThere tokens.now at (kinds.Reserved word) }
+pub fn reserved_at(tokens: &Tokens<'_>, at: u32, word: Reserved) -> bool
+    ensures { IsTrue result ↔ IsThere (listed tokens.now) at (kinds.Reserved word) }
 {
-    match tokens.get(at as usize) {
-        Some(token) => is_reserved(&token.kind, word),
+    match tokens.get(at) {
+        Some(token) => is_reserved(token.kind, word),
         None => false,
     }
 }
 
 /// Whether the token of this number is the word of this spelling, which isn't reserved.
-pub fn spelled_at(tokens: &[Token], at: u32, spelling: &str) -> bool
-    ensures { IsTrue result ↔ IsThere tokens.now at (kinds.Word spelling.now) }
+pub fn spelled_at(tokens: &Tokens<'_>, at: u32, spelling: &str) -> bool
+    ensures { IsTrue result ↔ IsThere (listed tokens.now) at (kinds.Word spelling.now) }
 {
-    match tokens.get(at as usize) {
-        Some(token) => is_spelled(&token.kind, spelling),
+    match tokens.get(at) {
+        Some(token) => is_spelled(token.kind, spelling),
         None => false,
     }
 }
@@ -85,56 +97,56 @@ fn behind(found: bool, at: u32) -> Result<u32, ParseFault>
 }
 
 /// Takes the mark, and gives the number of the token behind it. Where another token stands there, or none, that is `Syntax`.
-pub fn take_mark(tokens: &[Token], at: u32, mark: Mark) -> Result<u32, ParseFault>
-    requires size { length tokens.now ≤ 16_777_216 }
-    ensures taken { TakesOneToken (kinds.Mark mark) result tokens.now at }
-    ensures within { IfOk result (λ next. next ≤ length tokens.now) }
+pub fn take_mark(tokens: &Tokens<'_>, at: u32, mark: Mark) -> Result<u32, ParseFault>
+    requires size { length (listed tokens.now) ≤ 16_777_216 }
+    ensures taken { TakesOneToken (kinds.Mark mark) result (listed tokens.now) at }
+    ensures within { IfOk result (λ next. next ≤ length (listed tokens.now)) }
 {
     behind(mark_at(tokens, at, mark), at)
 }
 
 /// Takes the reserved word, and gives the number of the token behind it. Where another token stands there, or none, that is
 /// `Syntax`.
-pub fn take_reserved(tokens: &[Token], at: u32, word: Reserved) -> Result<u32, ParseFault>
-    requires size { length tokens.now ≤ 16_777_216 }
-    ensures taken { TakesOneToken (kinds.Reserved word) result tokens.now at }
-    ensures within { IfOk result (λ next. next ≤ length tokens.now) }
+pub fn take_reserved(tokens: &Tokens<'_>, at: u32, word: Reserved) -> Result<u32, ParseFault>
+    requires size { length (listed tokens.now) ≤ 16_777_216 }
+    ensures taken { TakesOneToken (kinds.Reserved word) result (listed tokens.now) at }
+    ensures within { IfOk result (λ next. next ≤ length (listed tokens.now)) }
 {
     behind(reserved_at(tokens, at, word), at)
 }
 
 /// Takes the word of this spelling, which isn't reserved, and gives the number of the token behind it. Where another token
 /// stands there, or none, that is `Syntax`.
-pub fn take_spelled(tokens: &[Token], at: u32, spelling: &str) -> Result<u32, ParseFault>
-    requires size { length tokens.now ≤ 16_777_216 }
-    ensures taken { TakesOneToken (kinds.Word spelling.now) result tokens.now at }
-    ensures within { IfOk result (λ next. next ≤ length tokens.now) }
+pub fn take_spelled(tokens: &Tokens<'_>, at: u32, spelling: &str) -> Result<u32, ParseFault>
+    requires size { length (listed tokens.now) ≤ 16_777_216 }
+    ensures taken { TakesOneToken (kinds.Word spelling.now) result (listed tokens.now) at }
+    ensures within { IfOk result (λ next. next ≤ length (listed tokens.now)) }
 {
     behind(spelled_at(tokens, at, spelling), at)
 }
 
-fn is_two(kind: &Kind) -> bool
-    ensures { IsTrue result ↔ kind.now ≡ kinds.Number 2 }
+fn is_two(kind: Seen<'_>) -> bool
+    ensures { IsTrue result ↔ seen_kind kind.entry ≡ Some (kinds.Number 2) }
 {
     match kind {
-        Kind::Number(number) => *number == 2,
+        Seen::Number(number) => number == 2,
         _ => false,
     }
 }
 
-fn two_at(tokens: &[Token], at: u32) -> bool
-    ensures { IsTrue result ↔ IsThere tokens.now at (kinds.Number 2) }
+fn two_at(tokens: &Tokens<'_>, at: u32) -> bool
+    ensures { IsTrue result ↔ IsThere (listed tokens.now) at (kinds.Number 2) }
 {
-    match tokens.get(at as usize) {
-        Some(token) => is_two(&token.kind),
+    match tokens.get(at) {
+        Some(token) => is_two(token.kind),
         None => false,
     }
 }
 
-fn take_two(tokens: &[Token], at: u32) -> Result<u32, ParseFault>
-    requires size { length tokens.now ≤ 16_777_216 }
-    ensures taken { TakesOneToken (kinds.Number 2) result tokens.now at }
-    ensures within { IfOk result (λ next. next ≤ length tokens.now) }
+fn take_two(tokens: &Tokens<'_>, at: u32) -> Result<u32, ParseFault>
+    requires size { length (listed tokens.now) ≤ 16_777_216 }
+    ensures taken { TakesOneToken (kinds.Number 2) result (listed tokens.now) at }
+    ensures within { IfOk result (λ next. next ≤ length (listed tokens.now)) }
 {
     behind(two_at(tokens, at), at)
 }
@@ -142,10 +154,10 @@ fn take_two(tokens: &[Token], at: u32) -> Result<u32, ParseFault>
 /// The version that the tokens begin with, and the number of the token behind it: 2 and 3 where they begin with the word
 /// `version`, the number 2 and a semicolon, and 1 and 0 where they don't begin with that word. `Syntax` is at the token behind
 /// the word that is another.
-pub fn version_of(tokens: &[Token]) -> ReadPart<u32>
-    requires size { length tokens.now ≤ 16_777_216 }
-    ensures read { ReadsVersion result tokens.now }
-    ensures within { IfOk result (λ r. r.1 ≤ length tokens.now) }
+pub fn version_of(tokens: &Tokens<'_>) -> ReadPart<u32>
+    requires size { length (listed tokens.now) ≤ 16_777_216 }
+    ensures read { ReadsVersion result (listed tokens.now) }
+    ensures within { IfOk result (λ r. r.1 ≤ length (listed tokens.now)) }
 {
     if !spelled_at(tokens, 0, "version") {
         return Ok((1, 0));
@@ -157,14 +169,14 @@ pub fn version_of(tokens: &[Token]) -> ReadPart<u32>
 
 /// Takes a word that isn't reserved, and gives it with the number of the token behind it. Where another token stands there, or
 /// none, that is `Syntax`. `NoMemory` comes where memory runs out.
-pub fn take_word(alloc: Global, tokens: &[Token], at: u32) -> ReadPart<SWord>
-    requires size { length tokens.now ≤ 16_777_216 }
-    ensures taken { TakesWord result tokens.now at }
-    ensures within { IfOk result (λ r. r.1 ≤ length tokens.now) }
+pub fn take_word(alloc: Global, tokens: &Tokens<'_>, at: u32) -> ReadPart<SWord>
+    requires size { length (listed tokens.now) ≤ 16_777_216 }
+    ensures taken { TakesWord result (listed tokens.now) at }
+    ensures within { IfOk result (λ r. r.1 ≤ length (listed tokens.now)) }
 {
-    match tokens.get(at as usize) {
-        Some(token) => match &token.kind {
-            Kind::Word(word) => match Text::of(alloc, word.as_str()) {
+    match tokens.get(at) {
+        Some(token) => match token.kind {
+            Seen::Word(word) => match Text::of(alloc, word) {
                 Ok(word) => Ok((
                     SWord {
                         word,
@@ -180,14 +192,25 @@ pub fn take_word(alloc: Global, tokens: &[Token], at: u32) -> ReadPart<SWord>
     }
 }
 
+/// Where the token of this number stands.
+fn token_span(tokens: &Tokens<'_>, at: u32) -> Span
+    requires { at < length (listed tokens.now) }
+    ensures { result ≡ span_over (listed tokens.now) at (at + 1) }
+{
+    match tokens.get(at) {
+        Some(token) => token.span,
+        None => unreachable!(),
+    }
+}
+
 /// From the start of the token of the first number to the end of the token before that of the second.
-pub fn span_between(tokens: &[Token], from: u32, to: u32) -> Span
+pub fn span_between(tokens: &Tokens<'_>, from: u32, to: u32) -> Span
     requires order { from < to }
-    requires within { to ≤ length tokens.now }
-    ensures { result ≡ span_over tokens.now from to }
+    requires within { to ≤ length (listed tokens.now) }
+    ensures { result ≡ span_over (listed tokens.now) from to }
 {
     Span {
-        from: tokens[from as usize].span.from,
-        to: tokens[to as usize - 1].span.to,
+        from: token_span(tokens, from).from,
+        to: token_span(tokens, to - 1).to,
     }
 }

@@ -16,9 +16,10 @@ use Rattle.spi_narrate.specs.Narrations as n
 use Rattle.spi_narrate.specs.Grammar.{comma_pieces, line_pieces, IsAnyWord, IsLine}
 
 abbrev pub prefix_of : Prefix → n.Prefix
-prefix_of (prefix.Split m x y s) = n.split s (msg_of m) x.name (ty_of x.ty.value) y.name (ty_of y.ty.value)
+prefix_of (prefix.Split m x y s) =
+    n.split s (msg_of m) x.name (ty_of x.ty.value) y.value.name (ty_of y.value.ty.value)
 prefix_of (prefix.Match m x k y s) =
-    n.match s (msg_of m) x.name (ty_of x.ty.value) (msg_of k) y.name (ty_of y.ty.value)
+    n.match s (msg_of m) x.name (ty_of x.ty.value) (msg_of k.value) y.value.name (ty_of y.value.ty.value)
 prefix_of (prefix.Decrypt m x k s) = n.decrypt s (msg_of m) x.name (ty_of x.ty.value) (msg_of k)
 prefix_of (prefix.Check m k s) = n.check s (msg_of m) (msg_of k)
 prefix_of (prefix.Begin m s) = n.begin s (msg_of m)

@@ -1,6 +1,7 @@
 //! Narrations in which nothing is wrong behind their grammar.
 
 ghost use Rattle.std.specs.Prelude.{◌≡◌, ◌↔◌, ◌≤◌, ◌<◌, ◌∷◌, [], length, map, IsTrue};
+ghost use Rattle.spi_lex.specs.Numbered.{listed};
 ghost use Rattle.spi_lex.specs.Lexing.{kinds_of, is_version_2};
 ghost use Rattle.spi_tree.specs.Formed.{AreWordsFit};
 ghost use Rattle.spi_heading.specs.Views.{shared_of};
@@ -21,7 +22,7 @@ use crate::fault::NarrateFault;
 use crate::reading::parse_narration;
 use crate::tree::{Line, Narration};
 use spi_heading::Shared;
-use spi_lex::Token;
+use spi_lex::{Token, Tokens};
 use spi_parse::ParseFault;
 use spi_text::{Span, Text};
 use spi_tree::{Room, SWord};
@@ -46,6 +47,15 @@ pub fn read_narration<'b>(room: Room<'b>, tokens: &[Token]) -> Result<Narration<
     requires size { length tokens.now ≤ 16_777_216 }
     requires words { AreWordsFit (is_version_2 (kinds_of tokens.now)) (kinds_of tokens.now) }
     ensures { ReadsNarration narration_of result tokens.now }
+{
+    narration_in(room, &Tokens::List(tokens))
+}
+
+/// The same, of the tokens of a list or of a text.
+pub fn narration_in<'b>(room: Room<'b>, tokens: &Tokens<'_>) -> Result<Narration<'b>, NarrateFault>
+    requires size { length (listed tokens.now) ≤ 16_777_216 }
+    requires words { AreWordsFit (is_version_2 (kinds_of (listed tokens.now))) (kinds_of (listed tokens.now)) }
+    ensures { ReadsNarration narration_of result (listed tokens.now) }
 {
     match parse_narration(room, tokens) {
         Ok(narration) => {

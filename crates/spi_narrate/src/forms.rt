@@ -1,6 +1,7 @@
 //! What a role does by itself.
 
 ghost use Rattle.std.specs.Prelude.{◌≡◌, ◌≤◌, ◌⊎◌, ◌==◌, [], true, false, length, IfOk};
+ghost use Rattle.spi_lex.specs.Numbered.{listed};
 ghost use Rattle.spi_lex.specs.declared.token.Kind.TheVariants as kinds;
 ghost use Rattle.spi_lex.specs.declared.token.Mark.TheVariants as marks;
 ghost use Rattle.spi_lex.specs.declared.token.Reserved.TheVariants as word;
@@ -18,21 +19,21 @@ ghost use Rattle.spi_narrate.specs.Words.{IsReservedAt};
 
 use crate::tree::Prefix;
 use spi_heading::{Named, ReadPart, named_at, span_between, take_mark, take_reserved};
-use spi_lex::{Kind, Mark, Reserved, Token};
-use spi_parse::{ParseFault, message_at};
+use spi_lex::{Mark, Reserved, Seen, Tokens};
+use spi_parse::{ParseFault, message_in};
 use spi_tree::{Room, SMsg};
 
 /// `M is`, from the token of number `at` on.
-fn whole_at<'b>(room: Room<'b>, tokens: &[Token], at: u32, version: u32) -> ReadPart<SMsg<'b>>
-    requires text { IsTextOf version tokens.now }
-    requires start { at ≤ length tokens.now }
+fn whole_at<'b>(room: Room<'b>, tokens: &Tokens<'_>, at: u32, version: u32) -> ReadPart<SMsg<'b>>
+    requires text { IsTextOf version (listed tokens.now) }
+    requires start { at ≤ length (listed tokens.now) }
     ensures read { let pieces = λ (x : Msg). msg_pieces 1 x (a_reserved word.Is []) in
         Reads msg_of pieces
         (λ x. IsMsg (version == 2) false x × AreWordsFit (version == 2) (kinds_in (pieces x)))
-        result tokens.now at }
-    ensures within { IfOk result (λ r. r.1 ≤ length tokens.now) }
+        result (listed tokens.now) at }
+    ensures within { IfOk result (λ r. r.1 ≤ length (listed tokens.now)) }
 {
-    let (whole, is_at) = message_at(room, tokens, at, version)?;
+    let (whole, is_at) = message_in(room, tokens, at, version)?;
     let next = take_reserved(tokens, is_at, Reserved::Is)?;
     Ok((whole, next))
 }
@@ -40,20 +41,20 @@ fn whole_at<'b>(room: Room<'b>, tokens: &[Token], at: u32, version: u32) -> Read
 /// `M is (x: T`, or with another mark before the name, from the token of number `at` on.
 fn bound_at<'b>(
     room: Room<'b>,
-    tokens: &[Token],
+    tokens: &Tokens<'_>,
     at: u32,
     mark: Mark,
     version: u32,
 ) -> ReadPart<(SMsg<'b>, Named<'b>)>
-    requires text { IsTextOf version tokens.now }
-    requires start { at ≤ length tokens.now }
+    requires text { IsTextOf version (listed tokens.now) }
+    requires start { at ≤ length (listed tokens.now) }
     ensures read { let pieces = λ (x : Msg × headings.Named). msg_pieces 1 x.0
         (a_reserved word.Is (a_mark mark (named_pieces x.1.name x.1.ty []))) in
         Reads (λ r. (msg_of r.0, named_of r.1)) pieces
         (λ x. IsMsg (version == 2) false x.0 × IsTy (version == 2) x.1.ty
         × AreWordsFit (version == 2) (kinds_in (pieces x)))
-        result tokens.now at }
-    ensures within { IfOk result (λ r. r.1 ≤ length tokens.now) }
+        result (listed tokens.now) at }
+    ensures within { IfOk result (λ r. r.1 ≤ length (listed tokens.now)) }
 {
     let (whole, mark_at) = whole_at(room, tokens, at, version)?;
     let name_at = take_mark(tokens, mark_at, mark)?;
@@ -64,19 +65,19 @@ fn bound_at<'b>(
 /// `(x: T)`, or with another mark before the name, from the token of number `at` on.
 fn closed_at<'b>(
     room: Room<'b>,
-    tokens: &[Token],
+    tokens: &Tokens<'_>,
     at: u32,
     mark: Mark,
     version: u32,
 ) -> ReadPart<Named<'b>>
-    requires text { IsTextOf version tokens.now }
-    requires start { at ≤ length tokens.now }
+    requires text { IsTextOf version (listed tokens.now) }
+    requires start { at ≤ length (listed tokens.now) }
     ensures read { let pieces = λ (x : headings.Named).
         a_mark mark (named_pieces x.name x.ty (a_mark marks.ParenClose [])) in
         Reads named_of pieces
         (λ x. IsTy (version == 2) x.ty × AreWordsFit (version == 2) (kinds_in (pieces x)))
-        result tokens.now at }
-    ensures within { IfOk result (λ r. r.1 ≤ length tokens.now) }
+        result (listed tokens.now) at }
+    ensures within { IfOk result (λ r. r.1 ≤ length (listed tokens.now)) }
 {
     let name_at = take_mark(tokens, at, mark)?;
     let (named, close) = named_at(room, tokens, name_at, version)?;
@@ -85,15 +86,18 @@ fn closed_at<'b>(
 }
 
 /// `split M is (x: T, y: U)`, where the token of number `at` is its first.
-fn split_at<'b>(room: Room<'b>, tokens: &[Token], at: u32, version: u32) -> ReadPart<Prefix<'b>>
-    requires text { IsTextOf version tokens.now }
-    requires first { IsThere tokens.now at (kinds.Reserved word.Split) }
-    ensures { Reads prefix_of whole_prefix (IsWholePrefix (version == 2)) result tokens.now at }
+fn split_at<'b>(room: Room<'b>, tokens: &Tokens<'_>, at: u32, version: u32) -> ReadPart<Prefix<'b>>
+    requires text { IsTextOf version (listed tokens.now) }
+    requires first { IsThere (listed tokens.now) at (kinds.Reserved word.Split) }
+    ensures { Reads prefix_of whole_prefix (IsWholePrefix (version == 2)) result (listed tokens.now) at }
 {
     let (bound, comma) = bound_at(room, tokens, at + 1, Mark::ParenOpen, version)?;
     let (right, next) = closed_at(room, tokens, comma, Mark::Comma, version)?;
     let (whole, left) = bound;
     let span = span_between(tokens, at, next);
+    let Ok(right) = Box::new(room.alloc, right) else {
+        return Err(ParseFault::NoMemory);
+    };
     Ok((
         Prefix::Split {
             whole,
@@ -106,17 +110,23 @@ fn split_at<'b>(room: Room<'b>, tokens: &[Token], at: u32, version: u32) -> Read
 }
 
 /// `match M is (x: T = N, y: U)`, where the token of number `at` is its first.
-fn match_at<'b>(room: Room<'b>, tokens: &[Token], at: u32, version: u32) -> ReadPart<Prefix<'b>>
-    requires text { IsTextOf version tokens.now }
-    requires first { IsThere tokens.now at (kinds.Reserved word.Match) }
-    ensures { Reads prefix_of whole_prefix (IsWholePrefix (version == 2)) result tokens.now at }
+fn match_at<'b>(room: Room<'b>, tokens: &Tokens<'_>, at: u32, version: u32) -> ReadPart<Prefix<'b>>
+    requires text { IsTextOf version (listed tokens.now) }
+    requires first { IsThere (listed tokens.now) at (kinds.Reserved word.Match) }
+    ensures { Reads prefix_of whole_prefix (IsWholePrefix (version == 2)) result (listed tokens.now) at }
 {
     let (bound, equals) = bound_at(room, tokens, at + 1, Mark::ParenOpen, version)?;
     let equal_at = take_mark(tokens, equals, Mark::Equals)?;
-    let (equal, comma) = message_at(room, tokens, equal_at, version)?;
+    let (equal, comma) = message_in(room, tokens, equal_at, version)?;
     let (right, next) = closed_at(room, tokens, comma, Mark::Comma, version)?;
     let (whole, left) = bound;
     let span = span_between(tokens, at, next);
+    let Ok(equal) = Box::new(room.alloc, equal) else {
+        return Err(ParseFault::NoMemory);
+    };
+    let Ok(right) = Box::new(room.alloc, right) else {
+        return Err(ParseFault::NoMemory);
+    };
     Ok((
         Prefix::Match {
             whole,
@@ -130,14 +140,19 @@ fn match_at<'b>(room: Room<'b>, tokens: &[Token], at: u32, version: u32) -> Read
 }
 
 /// `decrypt M is {x: T}N`, where the token of number `at` is its first.
-fn decrypt_at<'b>(room: Room<'b>, tokens: &[Token], at: u32, version: u32) -> ReadPart<Prefix<'b>>
-    requires text { IsTextOf version tokens.now }
-    requires first { IsThere tokens.now at (kinds.Reserved word.Decrypt) }
-    ensures { Reads prefix_of whole_prefix (IsWholePrefix (version == 2)) result tokens.now at }
+fn decrypt_at<'b>(
+    room: Room<'b>,
+    tokens: &Tokens<'_>,
+    at: u32,
+    version: u32,
+) -> ReadPart<Prefix<'b>>
+    requires text { IsTextOf version (listed tokens.now) }
+    requires first { IsThere (listed tokens.now) at (kinds.Reserved word.Decrypt) }
+    ensures { Reads prefix_of whole_prefix (IsWholePrefix (version == 2)) result (listed tokens.now) at }
 {
     let (opened, close) = bound_at(room, tokens, at + 1, Mark::BraceOpen, version)?;
     let key_at = take_mark(tokens, close, Mark::BraceClose)?;
-    let (key, next) = message_at(room, tokens, key_at, version)?;
+    let (key, next) = message_in(room, tokens, key_at, version)?;
     let (whole, bound) = opened;
     let span = span_between(tokens, at, next);
     Ok((
@@ -152,13 +167,13 @@ fn decrypt_at<'b>(room: Room<'b>, tokens: &[Token], at: u32, version: u32) -> Re
 }
 
 /// `check M is N`, where the token of number `at` is its first.
-fn check_at<'b>(room: Room<'b>, tokens: &[Token], at: u32, version: u32) -> ReadPart<Prefix<'b>>
-    requires text { IsTextOf version tokens.now }
-    requires first { IsThere tokens.now at (kinds.Reserved word.Check) }
-    ensures { Reads prefix_of whole_prefix (IsWholePrefix (version == 2)) result tokens.now at }
+fn check_at<'b>(room: Room<'b>, tokens: &Tokens<'_>, at: u32, version: u32) -> ReadPart<Prefix<'b>>
+    requires text { IsTextOf version (listed tokens.now) }
+    requires first { IsThere (listed tokens.now) at (kinds.Reserved word.Check) }
+    ensures { Reads prefix_of whole_prefix (IsWholePrefix (version == 2)) result (listed tokens.now) at }
 {
     let (whole, nonce_at) = whole_at(room, tokens, at + 1, version)?;
-    let (nonce, next) = message_at(room, tokens, nonce_at, version)?;
+    let (nonce, next) = message_in(room, tokens, nonce_at, version)?;
     let span = span_between(tokens, at, next);
     Ok((Prefix::Check { whole, nonce, span }, next))
 }
@@ -166,18 +181,18 @@ fn check_at<'b>(room: Room<'b>, tokens: &[Token], at: u32, version: u32) -> Read
 /// `begin L`, `end L` or `endmany L`, where the token of number `at` is its first.
 fn label_at<'b>(
     room: Room<'b>,
-    tokens: &[Token],
+    tokens: &Tokens<'_>,
     at: u32,
     form: Reserved,
     version: u32,
 ) -> ReadPart<Prefix<'b>>
-    requires text { IsTextOf version tokens.now }
-    requires first { IsThere tokens.now at (kinds.Reserved form) }
+    requires text { IsTextOf version (listed tokens.now) }
+    requires first { IsThere (listed tokens.now) at (kinds.Reserved form) }
     requires form { (form ≡ word.Begin) ⊎ ((form ≡ word.End)
         ⊎ ((form ≡ word.EndMany) × ((version == 2) ≡ true))) }
-    ensures { Reads prefix_of whole_prefix (IsWholePrefix (version == 2)) result tokens.now at }
+    ensures { Reads prefix_of whole_prefix (IsWholePrefix (version == 2)) result (listed tokens.now) at }
 {
-    let (label, next) = message_at(room, tokens, at + 1, version)?;
+    let (label, next) = message_in(room, tokens, at + 1, version)?;
     let span = span_between(tokens, at, next);
     match form {
         Reserved::Begin => Ok((Prefix::Begin { label, span }, next)),
@@ -187,10 +202,10 @@ fn label_at<'b>(
 }
 
 /// `cast M is (x: T)`, where the token of number `at` is its first.
-fn cast_at<'b>(room: Room<'b>, tokens: &[Token], at: u32, version: u32) -> ReadPart<Prefix<'b>>
-    requires text { IsTextOf version tokens.now }
-    requires first { IsThere tokens.now at (kinds.Reserved word.Cast) }
-    ensures { Reads prefix_of whole_prefix (IsWholePrefix (version == 2)) result tokens.now at }
+fn cast_at<'b>(room: Room<'b>, tokens: &Tokens<'_>, at: u32, version: u32) -> ReadPart<Prefix<'b>>
+    requires text { IsTextOf version (listed tokens.now) }
+    requires first { IsThere (listed tokens.now) at (kinds.Reserved word.Cast) }
+    ensures { Reads prefix_of whole_prefix (IsWholePrefix (version == 2)) result (listed tokens.now) at }
 {
     let (whole, open) = whole_at(room, tokens, at + 1, version)?;
     let (bound, next) = closed_at(room, tokens, open, Mark::ParenOpen, version)?;
@@ -199,10 +214,10 @@ fn cast_at<'b>(room: Room<'b>, tokens: &[Token], at: u32, version: u32) -> ReadP
 }
 
 /// `new (x: T)`, where the token of number `at` is its first.
-fn new_at<'b>(room: Room<'b>, tokens: &[Token], at: u32, version: u32) -> ReadPart<Prefix<'b>>
-    requires text { IsTextOf version tokens.now }
-    requires first { IsThere tokens.now at (kinds.Reserved word.New) }
-    ensures { Reads prefix_of whole_prefix (IsWholePrefix (version == 2)) result tokens.now at }
+fn new_at<'b>(room: Room<'b>, tokens: &Tokens<'_>, at: u32, version: u32) -> ReadPart<Prefix<'b>>
+    requires text { IsTextOf version (listed tokens.now) }
+    requires first { IsThere (listed tokens.now) at (kinds.Reserved word.New) }
+    ensures { Reads prefix_of whole_prefix (IsWholePrefix (version == 2)) result (listed tokens.now) at }
 {
     let (bound, next) = closed_at(room, tokens, at + 1, Mark::ParenOpen, version)?;
     let span = span_between(tokens, at, next);
@@ -210,12 +225,12 @@ fn new_at<'b>(room: Room<'b>, tokens: &[Token], at: u32, version: u32) -> ReadPa
 }
 
 /// The reserved word at the token of this number, where one stands there.
-fn reserved_word(tokens: &[Token], at: u32) -> Option<Reserved>
-    ensures { IsReservedAt result tokens.now at }
+fn reserved_word(tokens: &Tokens<'_>, at: u32) -> Option<Reserved>
+    ensures { IsReservedAt result (listed tokens.now) at }
 {
-    match tokens.get(at as usize) {
+    match tokens.get(at) {
         Some(token) => match token.kind {
-            Kind::Reserved(word) => Some(word),
+            Seen::Reserved(word) => Some(word),
             _ => None,
         },
         None => None,
@@ -226,12 +241,12 @@ fn reserved_word(tokens: &[Token], at: u32) -> Option<Reserved>
 /// token behind it. Where they begin with none that is within the nesting limits, the faults are as `message_at` has them.
 pub fn prefix_at<'b>(
     room: Room<'b>,
-    tokens: &[Token],
+    tokens: &Tokens<'_>,
     at: u32,
     version: u32,
 ) -> ReadPart<Prefix<'b>>
-    requires text { IsTextOf version tokens.now }
-    ensures { Reads prefix_of whole_prefix (IsWholePrefix (version == 2)) result tokens.now at }
+    requires text { IsTextOf version (listed tokens.now) }
+    ensures { Reads prefix_of whole_prefix (IsWholePrefix (version == 2)) result (listed tokens.now) at }
 {
     let Some(word) = reserved_word(tokens, at) else {
         return Err(ParseFault::Syntax { token: at });

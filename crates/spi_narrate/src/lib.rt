@@ -11,7 +11,7 @@ mod roles;
 mod tree;
 
 pub use fault::NarrateFault;
-pub use faultless::read_narration;
+pub use faultless::{narration_in, read_narration};
 pub use laws::{one_first_fault, one_narration};
 pub use reading::parse_narration;
 pub use roles::roles_at;

@@ -1,6 +1,7 @@
 //! Whole narrations.
 
 ghost use Rattle.std.specs.Prelude.{◌≤◌, length};
+ghost use Rattle.spi_lex.specs.Numbered.{listed};
 ghost use Rattle.spi_lex.specs.Lexing.{kinds_of, is_version_2};
 ghost use Rattle.spi_tree.specs.Formed.{AreWordsFit};
 ghost use Rattle.spi_narrate.specs.Reads.{ParsesNarration};
@@ -10,7 +11,7 @@ use crate::lines::Lines;
 use crate::roles::roles_at;
 use crate::tree::Narration;
 use spi_heading::{Heading, heading_at, parts_at, span_between};
-use spi_lex::Token;
+use spi_lex::Tokens;
 use spi_parse::ParseFault;
 use spi_tree::Room;
 
@@ -20,10 +21,10 @@ use spi_tree::Room;
 /// A fault names its token by its number from 0. `Syntax` is at the token with which no narration goes on, and at the end it
 /// is the number of tokens. `TooDeep` is at the first token at which a node of some narration starts that is above its nesting
 /// limit. `NoMemory` comes where memory runs out.
-pub fn parse_narration<'b>(room: Room<'b>, tokens: &[Token]) -> Result<Narration<'b>, ParseFault>
-    requires size { length tokens.now ≤ 16_777_216 }
-    requires words { AreWordsFit (is_version_2 (kinds_of tokens.now)) (kinds_of tokens.now) }
-    ensures { ParsesNarration narration_of result tokens.now }
+pub fn parse_narration<'b>(room: Room<'b>, tokens: &Tokens<'_>) -> Result<Narration<'b>, ParseFault>
+    requires size { length (listed tokens.now) ≤ 16_777_216 }
+    requires words { AreWordsFit (is_version_2 (kinds_of (listed tokens.now))) (kinds_of (listed tokens.now)) }
+    ensures { ParsesNarration narration_of result (listed tokens.now) }
 {
     let (heading, roles_start) = heading_at(room, tokens)?;
     let Heading {

@@ -36,22 +36,23 @@ pub enum Line<'b> {
     },
 }
 
-/// What a role does by itself: the part of a process form before `; P`.
+/// What a role does by itself: the part of a process form before `; P`. The second of two names lies in a place of its own,
+/// and so does what the first is equal to, so that each line stays small.
 #[derive(Drop)]
 pub enum Prefix<'b> {
     /// `split M is (x: T, y: U)`
     Split {
         whole: SMsg<'b>,
         left: Named<'b>,
-        right: Named<'b>,
+        right: Box<Named<'b>>,
         span: Span,
     },
     /// `match M is (x: T = N, y: U)`
     Match {
         whole: SMsg<'b>,
         left: Named<'b>,
-        equal: SMsg<'b>,
-        right: Named<'b>,
+        equal: Box<SMsg<'b>>,
+        right: Box<Named<'b>>,
         span: Span,
     },
     /// `decrypt M is {x: T}N`

@@ -1,4 +1,5 @@
 use Rattle.std.proofs.Common.{◌==◌, [], ◌∷◌, ◌++◌, refl}
+use Rattle.spi_lex.specs.Numbered.{listed}
 use Rattle.spi_lex.specs.declared.token.Kind.TheVariants as K
 use Rattle.spi_lex.specs.declared.token.Mark.TheVariants as mark
 use Rattle.spi_lex.specs.declared.token.Reserved.TheVariants as word
@@ -21,40 +22,40 @@ use Rattle.spi_narrate.proofs.forms.match_at.Goals as goal
 
 pub returns-in_err-bound : goal.returns-in_err-bound
 returns-in_err-bound c =
-    node_fails (c.args.version == 2) whole_prefix (IsPrefix (c.args.version == 2)) prefix_of (K.Reserved word.Match) match_row (match_told (c.args.version == 2)) c.args.tokens.now c.args.at c.requires.first c.in_err-bound.field-0.0 c.from_residual.result c.from_residual.ensures.1
-    (no_part (token (the_mark mark.Equals) ∷ message ∷ (closed_row mark.Comma ++ closing ∷ [])) (bound_are (c.args.version == 2) mark.ParenOpen) (begun_node (c.args.version == 2) c.args.tokens.now c.args.at c.requires.text.words (the_reserved word.Match) match_rest c.requires.first) (λ (r : SMsg × Named). (msg_of r.0, named_of r.1)) c.in_err-bound.field-0.0 c.in_err-bound.ensures.read)
+    node_fails (c.args.version == 2) whole_prefix (IsPrefix (c.args.version == 2)) prefix_of (K.Reserved word.Match) match_row (match_told (c.args.version == 2)) (listed c.args.tokens.now) c.args.at c.requires.first c.in_err-bound.field-0.0 c.from_residual.result c.from_residual.ensures.1
+    (no_part (token (the_mark mark.Equals) ∷ message ∷ (closed_row mark.Comma ++ closing ∷ [])) (bound_are (c.args.version == 2) mark.ParenOpen) (begun_node (c.args.version == 2) (listed c.args.tokens.now) c.args.at c.requires.text.words (the_reserved word.Match) match_rest c.requires.first) (λ (r : SMsg × Named). (msg_of r.0, named_of r.1)) c.in_err-bound.field-0.0 c.in_err-bound.ensures.read)
 
 pub returns-in_err-equal_at : goal.returns-in_err-equal_at
 returns-in_err-equal_at c =
-    let bound = then_part (token (the_mark mark.Equals) ∷ message ∷ (closed_row mark.Comma ++ closing ∷ [])) (bound_are (c.args.version == 2) mark.ParenOpen) (begun_node (c.args.version == 2) c.args.tokens.now c.args.at c.requires.text.words (the_reserved word.Match) match_rest c.requires.first) (msg_of c.in_ok-bound.bound.0, named_of c.in_ok-bound.bound.1) c.in_ok-bound.equals (there_within c.args.tokens.now c.args.at (K.Reserved word.Match) c.requires.first) c.in_ok-bound.ensures.read in
-    node_fails (c.args.version == 2) whole_prefix (IsPrefix (c.args.version == 2)) prefix_of (K.Reserved word.Match) match_row (match_told (c.args.version == 2)) c.args.tokens.now c.args.at c.requires.first c.in_err-equal_at.field-0.0 c.from_residual-in_err-equal_at.result c.from_residual-in_err-equal_at.ensures.1
+    let bound = then_part (token (the_mark mark.Equals) ∷ message ∷ (closed_row mark.Comma ++ closing ∷ [])) (bound_are (c.args.version == 2) mark.ParenOpen) (begun_node (c.args.version == 2) (listed c.args.tokens.now) c.args.at c.requires.text.words (the_reserved word.Match) match_rest c.requires.first) (msg_of c.in_ok-bound.bound.0, named_of c.in_ok-bound.bound.1) c.in_ok-bound.equals (there_within (listed c.args.tokens.now) c.args.at (K.Reserved word.Match) c.requires.first) c.in_ok-bound.ensures.read in
+    node_fails (c.args.version == 2) whole_prefix (IsPrefix (c.args.version == 2)) prefix_of (K.Reserved word.Match) match_row (match_told (c.args.version == 2)) (listed c.args.tokens.now) c.args.at c.requires.first c.in_err-equal_at.field-0.0 c.from_residual-in_err-equal_at.result c.from_residual-in_err-equal_at.ensures.1
     (no_token bound c.in_err-equal_at.field-0.0 c.in_err-equal_at.ensures.taken)
 
 pub returns-in_err-equal : goal.returns-in_err-equal
 returns-in_err-equal c =
-    let bound = then_part (token (the_mark mark.Equals) ∷ message ∷ (closed_row mark.Comma ++ closing ∷ [])) (bound_are (c.args.version == 2) mark.ParenOpen) (begun_node (c.args.version == 2) c.args.tokens.now c.args.at c.requires.text.words (the_reserved word.Match) match_rest c.requires.first) (msg_of c.in_ok-bound.bound.0, named_of c.in_ok-bound.bound.1) c.in_ok-bound.equals (there_within c.args.tokens.now c.args.at (K.Reserved word.Match) c.requires.first) c.in_ok-bound.ensures.read in
-    node_fails (c.args.version == 2) whole_prefix (IsPrefix (c.args.version == 2)) prefix_of (K.Reserved word.Match) match_row (match_told (c.args.version == 2)) c.args.tokens.now c.args.at c.requires.first c.in_err-equal.field-0.0 c.from_residual-in_err-equal.result c.from_residual-in_err-equal.ensures.1
+    let bound = then_part (token (the_mark mark.Equals) ∷ message ∷ (closed_row mark.Comma ++ closing ∷ [])) (bound_are (c.args.version == 2) mark.ParenOpen) (begun_node (c.args.version == 2) (listed c.args.tokens.now) c.args.at c.requires.text.words (the_reserved word.Match) match_rest c.requires.first) (msg_of c.in_ok-bound.bound.0, named_of c.in_ok-bound.bound.1) c.in_ok-bound.equals (there_within (listed c.args.tokens.now) c.args.at (K.Reserved word.Match) c.requires.first) c.in_ok-bound.ensures.read in
+    node_fails (c.args.version == 2) whole_prefix (IsPrefix (c.args.version == 2)) prefix_of (K.Reserved word.Match) match_row (match_told (c.args.version == 2)) (listed c.args.tokens.now) c.args.at c.requires.first c.in_err-equal.field-0.0 c.from_residual-in_err-equal.result c.from_residual-in_err-equal.ensures.1
     (no_message (then_token bound c.in_ok-equal_at.equal_at c.in_ok-equal_at.ensures.taken) msg_of c.in_err-equal.field-0.0 c.in_err-equal.ensures)
 
 pub returns-in_err-right : goal.returns-in_err-right
 returns-in_err-right c =
-    let bound = then_part (token (the_mark mark.Equals) ∷ message ∷ (closed_row mark.Comma ++ closing ∷ [])) (bound_are (c.args.version == 2) mark.ParenOpen) (begun_node (c.args.version == 2) c.args.tokens.now c.args.at c.requires.text.words (the_reserved word.Match) match_rest c.requires.first) (msg_of c.in_ok-bound.bound.0, named_of c.in_ok-bound.bound.1) c.in_ok-bound.equals (there_within c.args.tokens.now c.args.at (K.Reserved word.Match) c.requires.first) c.in_ok-bound.ensures.read in
+    let bound = then_part (token (the_mark mark.Equals) ∷ message ∷ (closed_row mark.Comma ++ closing ∷ [])) (bound_are (c.args.version == 2) mark.ParenOpen) (begun_node (c.args.version == 2) (listed c.args.tokens.now) c.args.at c.requires.text.words (the_reserved word.Match) match_rest c.requires.first) (msg_of c.in_ok-bound.bound.0, named_of c.in_ok-bound.bound.1) c.in_ok-bound.equals (there_within (listed c.args.tokens.now) c.args.at (K.Reserved word.Match) c.requires.first) c.in_ok-bound.ensures.read in
     let marked = then_token bound c.in_ok-equal_at.equal_at c.in_ok-equal_at.ensures.taken in
     let equal = then_message marked (msg_of c.in_ok-equal.equal) c.in_ok-equal.comma c.in_ok-equal_at.ensures.within c.in_ok-equal.ensures in
-    node_fails (c.args.version == 2) whole_prefix (IsPrefix (c.args.version == 2)) prefix_of (K.Reserved word.Match) match_row (match_told (c.args.version == 2)) c.args.tokens.now c.args.at c.requires.first c.in_err-right.field-0.0 c.from_residual-in_err-right.result c.from_residual-in_err-right.ensures.1
+    node_fails (c.args.version == 2) whole_prefix (IsPrefix (c.args.version == 2)) prefix_of (K.Reserved word.Match) match_row (match_told (c.args.version == 2)) (listed c.args.tokens.now) c.args.at c.requires.first c.in_err-right.field-0.0 c.from_residual-in_err-right.result c.from_residual-in_err-right.ensures.1
     (no_part (closing ∷ []) (closed_are (c.args.version == 2) mark.Comma) equal named_of c.in_err-right.field-0.0 c.in_err-right.ensures.read)
 
 pub returns : goal.returns
 returns c =
-    let bound = then_part (token (the_mark mark.Equals) ∷ message ∷ (closed_row mark.Comma ++ closing ∷ [])) (bound_are (c.args.version == 2) mark.ParenOpen) (begun_node (c.args.version == 2) c.args.tokens.now c.args.at c.requires.text.words (the_reserved word.Match) match_rest c.requires.first) (msg_of c.in_ok-bound.bound.0, named_of c.in_ok-bound.bound.1) c.in_ok-bound.equals (there_within c.args.tokens.now c.args.at (K.Reserved word.Match) c.requires.first) c.in_ok-bound.ensures.read in
+    let bound = then_part (token (the_mark mark.Equals) ∷ message ∷ (closed_row mark.Comma ++ closing ∷ [])) (bound_are (c.args.version == 2) mark.ParenOpen) (begun_node (c.args.version == 2) (listed c.args.tokens.now) c.args.at c.requires.text.words (the_reserved word.Match) match_rest c.requires.first) (msg_of c.in_ok-bound.bound.0, named_of c.in_ok-bound.bound.1) c.in_ok-bound.equals (there_within (listed c.args.tokens.now) c.args.at (K.Reserved word.Match) c.requires.first) c.in_ok-bound.ensures.read in
     let marked = then_token bound c.in_ok-equal_at.equal_at c.in_ok-equal_at.ensures.taken in
     let equal = then_message marked (msg_of c.in_ok-equal.equal) c.in_ok-equal.comma c.in_ok-equal_at.ensures.within c.in_ok-equal.ensures in
-    let right = then_part (closing ∷ []) (closed_are (c.args.version == 2) mark.Comma) equal (named_of c.in_ok-right.right) c.in_ok-right.next (message_within (c.args.version == 2) c.args.tokens.now c.in_ok-equal_at.equal_at (msg_of c.in_ok-equal.equal) c.in_ok-equal.comma c.in_ok-equal_at.ensures.within c.in_ok-equal.ensures) c.in_ok-right.ensures.read in
-    prefix_reads (c.args.version == 2) c.args.tokens.now c.args.at c.requires.text.words (λ (s : Span). n.match s (msg_of c.in_ok-bound.bound.0) c.in_ok-bound.bound.1.name (ty_of c.in_ok-bound.bound.1.ty.value) (msg_of c.in_ok-equal.equal) c.in_ok-right.right.name (ty_of c.in_ok-right.right.ty.value)) c.span_between-span.result c.in_ok-right.next c.span_between-span.ensures (c.in_ok-bound.ensures.read.2.part.0, c.in_ok-bound.ensures.read.2.part.1, c.in_ok-equal.ensures.2.part.0, c.in_ok-right.ensures.read.2.part.0) match_row _ refl
-    (ended (then_closing right))
+    let right = then_part (closing ∷ []) (closed_are (c.args.version == 2) mark.Comma) equal (named_of c.in_ok-right.right) c.in_ok-right.next (message_within (c.args.version == 2) (listed c.args.tokens.now) c.in_ok-equal_at.equal_at (msg_of c.in_ok-equal.equal) c.in_ok-equal.comma c.in_ok-equal_at.ensures.within c.in_ok-equal.ensures) c.in_ok-right.ensures.read in
+    let read = prefix_reads (c.args.version == 2) (listed c.args.tokens.now) c.args.at c.requires.text.words (λ (s : Span). n.match s (msg_of c.in_ok-bound.bound.0) c.in_ok-bound.bound.1.name (ty_of c.in_ok-bound.bound.1.ty.value) (msg_of c.in_ok-equal.equal) c.in_ok-right.right.name (ty_of c.in_ok-right.right.ty.value)) c.span_between-span.result c.in_ok-right.next c.span_between-span.ensures (c.in_ok-bound.ensures.read.2.part.0, c.in_ok-bound.ensures.read.2.part.1, c.in_ok-equal.ensures.2.part.0, c.in_ok-right.ensures.read.2.part.0) match_row _ refl (ended (then_closing right)) in
+    rw (c.in-Ok.ensures.ok, c.in-Ok-new.ensures.ok) read
 
 pub bound_at-requires-clause-start : goal.bound_at-requires-clause-start
-bound_at-requires-clause-start c = there_within c.args.tokens.now c.args.at (K.Reserved word.Match) c.requires.first
+bound_at-requires-clause-start c = there_within (listed c.args.tokens.now) c.args.at (K.Reserved word.Match) c.requires.first
 
 pub closed_at-requires-clause-start : goal.closed_at-requires-clause-start
-closed_at-requires-clause-start c = message_within (c.args.version == 2) c.args.tokens.now c.in_ok-equal_at.equal_at (msg_of c.in_ok-equal.equal) c.in_ok-equal.comma c.in_ok-equal_at.ensures.within c.in_ok-equal.ensures
+closed_at-requires-clause-start c = message_within (c.args.version == 2) (listed c.args.tokens.now) c.in_ok-equal_at.equal_at (msg_of c.in_ok-equal.equal) c.in_ok-equal.comma c.in_ok-equal_at.ensures.within c.in_ok-equal.ensures

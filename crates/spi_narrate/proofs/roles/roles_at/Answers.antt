@@ -1,4 +1,5 @@
 use Rattle.std.proofs.Common.{◌==◌, ◌∷◌, [], List, refl}
+use Rattle.spi_lex.specs.Numbered.{listed}
 use Rattle.std.specs.Global.{Vec}
 use Rattle.spi_tree.specs.declared.tree.SWord.{SWord}
 use Rattle.spi_heading.specs.Each.{IsWhole}
@@ -14,14 +15,14 @@ view r = r.0 ∷ r.1.items
 
 pub returns-in_err-first_at : goal.returns-in_err-first_at
 returns-in_err-first_at c =
-    roles_answer (c.args.version == 2) c.args.tokens.now c.requires.text.words c.args.at view c.in_err-first_at.field-0.0 c.from_residual.result c.from_residual.ensures.1
-    (roles_head_fails (c.args.version == 2) c.args.tokens.now c.requires.text.words c.args.at c.in_err-first_at.field-0.0 (no_token (begun (c.args.version == 2) c.args.tokens.now c.args.at roles_head c.requires.text.words) c.in_err-first_at.field-0.0 c.in_err-first_at.ensures.taken))
+    roles_answer (c.args.version == 2) (listed c.args.tokens.now) c.requires.text.words c.args.at view c.in_err-first_at.field-0.0 c.from_residual.result c.from_residual.ensures.1
+    (roles_head_fails (c.args.version == 2) (listed c.args.tokens.now) c.requires.text.words c.args.at c.in_err-first_at.field-0.0 (no_token (begun (c.args.version == 2) (listed c.args.tokens.now) c.args.at roles_head c.requires.text.words) c.in_err-first_at.field-0.0 c.in_err-first_at.ensures.taken))
 
 pub returns-in_err-first : goal.returns-in_err-first
 returns-in_err-first c =
-    let word = then_token (begun (c.args.version == 2) c.args.tokens.now c.args.at roles_head c.requires.text.words) c.in_ok-first_at.first_at c.in_ok-first_at.ensures.taken in
-    roles_answer (c.args.version == 2) c.args.tokens.now c.requires.text.words c.args.at view c.in_err-first.field-0.0 c.from_residual-in_err-first.result c.from_residual-in_err-first.ensures.1
-    (roles_head_fails (c.args.version == 2) c.args.tokens.now c.requires.text.words c.args.at c.in_err-first.field-0.0 (no_word word c.in_err-first.field-0.0 c.in_err-first.ensures.taken))
+    let word = then_token (begun (c.args.version == 2) (listed c.args.tokens.now) c.args.at roles_head c.requires.text.words) c.in_ok-first_at.first_at c.in_ok-first_at.ensures.taken in
+    roles_answer (c.args.version == 2) (listed c.args.tokens.now) c.requires.text.words c.args.at view c.in_err-first.field-0.0 c.from_residual-in_err-first.result c.from_residual-in_err-first.ensures.1
+    (roles_head_fails (c.args.version == 2) (listed c.args.tokens.now) c.requires.text.words c.args.at c.in_err-first.field-0.0 (no_word word c.in_err-first.field-0.0 c.in_err-first.ensures.taken))
 
 pub parts_at-requires : goal.parts_at-requires
 parts_at-requires c κs = ((refl, tt), (c.requires.text, (c.in_ok-first.ensures.within, record { behind = comma_behind; solid = comma_solid })))
@@ -29,21 +30,21 @@ parts_at-requires c κs = ((refl, tt), (c.requires.text, (c.in_ok-first.ensures.
 pub returns-in_err-more : goal.returns-in_err-more
 returns-in_err-more c =
     let e = c.in_err-more.ensures in
-    let fault = fails_from (λ (w : SWord). w) (λ w. comma_pieces w []) (IsWhole (c.args.version == 2) comma_pieces IsAnyWord) c.args.tokens.now e.1 c.in_err-more.field-0.0 e.4 in
-    roles_answer (c.args.version == 2) c.args.tokens.now c.requires.text.words c.args.at view c.in_err-more.field-0.0 c.from_residual-in_err-more.result c.from_residual-in_err-more.ensures.1
-    (word_fails (c.args.version == 2) c.args.tokens.now c.requires.text.words c.args.at c.in_ok-first.behind c.in_ok-first.first (roles_head_at (c.args.version == 2) c.args.tokens.now c.args.at c.in_ok-first_at.first_at c.in_ok-first.behind c.in_ok-first.first c.in_ok-first_at.ensures.taken c.in_ok-first.ensures.taken)
-    e.0 e.1 (each_along comma_pieces comma_behind IsAnyWord c.args.tokens.now comma_solid c.in_ok-first.behind e.1 e.0 c.in_ok-first.ensures.within e.2) e.3 c.in_err-more.field-0.0 fault)
+    let fault = fails_from (λ (w : SWord). w) (λ w. comma_pieces w []) (IsWhole (c.args.version == 2) comma_pieces IsAnyWord) (listed c.args.tokens.now) e.1 c.in_err-more.field-0.0 e.4 in
+    roles_answer (c.args.version == 2) (listed c.args.tokens.now) c.requires.text.words c.args.at view c.in_err-more.field-0.0 c.from_residual-in_err-more.result c.from_residual-in_err-more.ensures.1
+    (word_fails (c.args.version == 2) (listed c.args.tokens.now) c.requires.text.words c.args.at c.in_ok-first.behind c.in_ok-first.first (roles_head_at (c.args.version == 2) (listed c.args.tokens.now) c.args.at c.in_ok-first_at.first_at c.in_ok-first.behind c.in_ok-first.first c.in_ok-first_at.ensures.taken c.in_ok-first.ensures.taken)
+    e.0 e.1 (each_along comma_pieces comma_behind IsAnyWord (listed c.args.tokens.now) comma_solid c.in_ok-first.behind e.1 e.0 c.in_ok-first.ensures.within e.2) e.3 c.in_err-more.field-0.0 fault)
 
 pub returns-in_err-next : goal.returns-in_err-next
 returns-in_err-next c =
-    let more = each_along comma_pieces comma_behind IsAnyWord c.args.tokens.now comma_solid c.in_ok-first.behind c.in_ok-more.end c.in_ok-more.more.items c.in_ok-first.ensures.within (further_are c.in_ok-more.more.items c.args.tokens.now c.in_ok-first.behind c.in_ok-more.end c.in_ok-more.ensures.0) in
-    roles_answer (c.args.version == 2) c.args.tokens.now c.requires.text.words c.args.at view c.in_err-next.field-0.0 c.from_residual-in_err-next.result c.from_residual-in_err-next.ensures.1
-    (semicolon_fails (c.args.version == 2) c.args.tokens.now c.requires.text.words c.args.at c.in_ok-first.behind c.in_ok-first.first (roles_head_at (c.args.version == 2) c.args.tokens.now c.args.at c.in_ok-first_at.first_at c.in_ok-first.behind c.in_ok-first.first c.in_ok-first_at.ensures.taken c.in_ok-first.ensures.taken)
-    c.in_ok-more.more.items c.in_ok-more.end more c.in_ok-more.ensures.1 c.in_err-next.field-0.0 (no_token (begun (c.args.version == 2) c.args.tokens.now c.in_ok-more.end semicolon_row c.requires.text.words) c.in_err-next.field-0.0 c.in_err-next.ensures.taken))
+    let more = each_along comma_pieces comma_behind IsAnyWord (listed c.args.tokens.now) comma_solid c.in_ok-first.behind c.in_ok-more.end c.in_ok-more.more.items c.in_ok-first.ensures.within (further_are c.in_ok-more.more.items (listed c.args.tokens.now) c.in_ok-first.behind c.in_ok-more.end c.in_ok-more.ensures.0) in
+    roles_answer (c.args.version == 2) (listed c.args.tokens.now) c.requires.text.words c.args.at view c.in_err-next.field-0.0 c.from_residual-in_err-next.result c.from_residual-in_err-next.ensures.1
+    (semicolon_fails (c.args.version == 2) (listed c.args.tokens.now) c.requires.text.words c.args.at c.in_ok-first.behind c.in_ok-first.first (roles_head_at (c.args.version == 2) (listed c.args.tokens.now) c.args.at c.in_ok-first_at.first_at c.in_ok-first.behind c.in_ok-first.first c.in_ok-first_at.ensures.taken c.in_ok-first.ensures.taken)
+    c.in_ok-more.more.items c.in_ok-more.end more c.in_ok-more.ensures.1 c.in_err-next.field-0.0 (no_token (begun (c.args.version == 2) (listed c.args.tokens.now) c.in_ok-more.end semicolon_row c.requires.text.words) c.in_err-next.field-0.0 c.in_err-next.ensures.taken))
 
 pub returns : goal.returns
 returns c =
-    let more = each_along comma_pieces comma_behind IsAnyWord c.args.tokens.now comma_solid c.in_ok-first.behind c.in_ok-more.end c.in_ok-more.more.items c.in_ok-first.ensures.within (further_are c.in_ok-more.more.items c.args.tokens.now c.in_ok-first.behind c.in_ok-more.end c.in_ok-more.ensures.0) in
-    let semicolon = then_token (begun (c.args.version == 2) c.args.tokens.now c.in_ok-more.end semicolon_row c.requires.text.words) c.in_ok-next.next c.in_ok-next.ensures.taken in
-    roles_read (c.args.version == 2) c.args.tokens.now c.requires.text.words c.args.at c.in_ok-first.behind c.in_ok-first.first (roles_head_at (c.args.version == 2) c.args.tokens.now c.args.at c.in_ok-first_at.first_at c.in_ok-first.behind c.in_ok-first.first c.in_ok-first_at.ensures.taken c.in_ok-first.ensures.taken)
+    let more = each_along comma_pieces comma_behind IsAnyWord (listed c.args.tokens.now) comma_solid c.in_ok-first.behind c.in_ok-more.end c.in_ok-more.more.items c.in_ok-first.ensures.within (further_are c.in_ok-more.more.items (listed c.args.tokens.now) c.in_ok-first.behind c.in_ok-more.end c.in_ok-more.ensures.0) in
+    let semicolon = then_token (begun (c.args.version == 2) (listed c.args.tokens.now) c.in_ok-more.end semicolon_row c.requires.text.words) c.in_ok-next.next c.in_ok-next.ensures.taken in
+    roles_read (c.args.version == 2) (listed c.args.tokens.now) c.requires.text.words c.args.at c.in_ok-first.behind c.in_ok-first.first (roles_head_at (c.args.version == 2) (listed c.args.tokens.now) c.args.at c.in_ok-first_at.first_at c.in_ok-first.behind c.in_ok-first.first c.in_ok-first_at.ensures.taken c.in_ok-first.ensures.taken)
     c.in_ok-more.more.items c.in_ok-more.end more c.in_ok-next.next (ended semicolon)

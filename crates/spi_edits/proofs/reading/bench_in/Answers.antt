@@ -1,4 +1,5 @@
 use Rattle.std.proofs.Common.{◌==◌, map, refl}
+use Rattle.spi_lex.specs.Numbered.{listed}
 use Rattle.spi_tree.specs.Views.{decl_of}
 use Rattle.spi_heading.specs.Views.{shared_of}
 use Rattle.spi_heading.proofs.Fronts.{heading_answer, behind_heading}
@@ -8,19 +9,19 @@ use Rattle.spi_edits.specs.Views.{edit_of, bench_of}
 use Rattle.spi_edits.proofs.EditRows.{edits_good, edits_some, edit_behind, edit_solid}
 use Rattle.spi_edits.proofs.Whole.{Benches, benches_headed}
 use Rattle.spi_edits.proofs.Steps.{bench_read, parse_fails}
-use Rattle.spi_edits.proofs.reading.read_bench.Goals as goal
+use Rattle.spi_edits.proofs.reading.bench_in.Goals as goal
 
 pub returns-in_err-heading : goal.returns-in_err-heading
 returns-in_err-heading c =
-    parse_fails bench_of c.args.tokens.now c.in_err-heading.field-0.0 c.from_residual.result c.from_residual.ensures.1
-    (heading_answer benches_headed c.args.tokens.now c.requires.words c.in_err-heading.field-0.0 c.in_err-heading.ensures.read)
+    parse_fails bench_of (listed c.args.tokens.now) c.in_err-heading.field-0.0 c.from_residual.result c.from_residual.ensures.1
+    (heading_answer benches_headed (listed c.args.tokens.now) c.requires.words c.in_err-heading.field-0.0 c.in_err-heading.ensures.read)
 
 pub parts_at-requires : goal.parts_at-requires
 parts_at-requires c = λ k. ((refl, tt), (c.in_ok-heading.ensures.text, (c.in_ok-heading.ensures.within, record { behind = edit_behind; solid = edit_solid })))
 
 pub returns-in_err-edits : goal.returns-in_err-edits
 returns-in_err-edits c =
-    let ts = c.args.tokens.now in
+    let ts = (listed c.args.tokens.now) in
     let x = c.in_ok-heading.heading in
     let e = c.in_ok-heading.ensures in
     let v = x.version == 2 in
@@ -33,5 +34,5 @@ returns c =
     let x = c.in_ok-heading.heading in
     let k = c.in_ok-heading.start in
     let es = map edit_of c.in_ok-edits.edits.items in
-    bench_read c.args.tokens.now c.whole_span.result c.whole_span.ensures c.requires.words x.version (map decl_of x.decls.items) (map shared_of x.shared.items) es k c.in_ok-heading.ensures.read
-    (last_along edit_pieces edit_behind edit_solid (x.version == 2) (IsEdit (x.version == 2)) c.args.tokens.now k c.in_ok-edits._behind es c.in_ok-heading.ensures.within c.in_ok-edits.ensures)
+    bench_read (listed c.args.tokens.now) c.whole_span.result c.whole_span.ensures c.requires.words x.version (map decl_of x.decls.items) (map shared_of x.shared.items) es k c.in_ok-heading.ensures.read
+    (last_along edit_pieces edit_behind edit_solid (x.version == 2) (IsEdit (x.version == 2)) (listed c.args.tokens.now) k c.in_ok-edits._behind es c.in_ok-heading.ensures.within c.in_ok-edits.ensures)
