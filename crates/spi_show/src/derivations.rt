@@ -44,6 +44,15 @@ fn put_uses(alloc: Global, uses: &[RuleUse], out: &mut Vec<u8>) -> Result<(), No
     Ok(())
 }
 
+/// Appends the text of a derivation: the line `derivation`, and a line for each rule use, in preorder.
+pub fn put_derivation_text(alloc: Global, d: &Deriv, out: &mut Vec<u8>) -> Result<(), NoMemory>
+    ensures { OnOk result (out.new.items ≡ out.old.items ++ derivation_text (rule_uses d.now)) }
+{
+    out.extend_from_slice(b"derivation\n")?;
+    put_uses(alloc, &d.uses, out)?;
+    Ok(())
+}
+
 /// The text of a derivation: the line `derivation`, and a line for each rule use, in preorder. A use of `ProcSub` has its
 /// effect behind a space, as `ProcSub [end #0, check (#1, #2)]`, with `#` and its number for each name. Its only error is
 /// NoMemory.
@@ -51,7 +60,6 @@ pub fn show_derivation(alloc: Global, d: &Deriv) -> Result<Vec<u8>, NoMemory>
     ensures { IfOk result (λ text. text.items ≡ derivation_text (rule_uses d.now)) }
 {
     let mut out = Vec::new(alloc);
-    out.extend_from_slice(b"derivation\n")?;
-    put_uses(alloc, &d.uses, &mut out)?;
+    put_derivation_text(alloc, d, &mut out)?;
     Ok(out)
 }

@@ -6,11 +6,11 @@ ghost use Rattle.spi_show.specs.Spells.{spelling};
 ghost use Rattle.spi_show.specs.Files.{version_text, words_text, free_text, spelling_line, opponent_text, schedule_part, derivation_part, file_text, IsCanonicalText};
 
 use crate::NoMemory;
-use crate::derivations::show_derivation;
+use crate::derivations::put_derivation_text;
 use crate::processes::put_process;
 use crate::shift::shift;
 use crate::spell::{NameSpelling, Shift, Spell};
-use crate::steps::show_steps;
+use crate::steps::put_schedule_text;
 use spi_rules::Deriv;
 use spi_run::Step;
 use spi_scope::File;
@@ -86,10 +86,7 @@ fn put_schedule(
 {
     match schedule {
         None => Ok(()),
-        Some(steps) => {
-            let text = show_steps(alloc, steps)?;
-            out.extend_from_slice(text.as_slice())
-        }
+        Some(steps) => put_schedule_text(alloc, steps, out),
     }
 }
 
@@ -102,10 +99,7 @@ fn put_derivation(
 {
     match derivation {
         None => Ok(()),
-        Some(d) => {
-            let text = show_derivation(alloc, d)?;
-            out.extend_from_slice(text.as_slice())
-        }
+        Some(d) => put_derivation_text(alloc, d, out),
     }
 }
 
