@@ -1,7 +1,8 @@
 #!/usr/bin/env python3
-"""Tells how much memory `cryptyc check` takes at most on files that ask for much of it.
+"""Tells how much memory `cryptyc` takes at most on files that ask for much of it.
 
-Each file but the first has some 16 million bytes of one form over and over: what a stranger may send. Usage:
+Each file but the first has some 16 million bytes of one form over and over: what a stranger may send. Files are checked,
+narrations told and benches judged, and one file is printed. Usage:
 bench/memory.py [--program FILE] [--only WORD] [--most BYTES]. Without --program it takes the proved object
 crates/cryptyc/out/cryptyc.o and links it statically, as a package does; a program that is linked otherwise takes half a
 megabyte more, for the loader and the whole C library. It prints a row of a Markdown table for each file: its bytes, the most
@@ -101,6 +102,51 @@ FILES = {
 }
 
 
+def lines(line):
+    return f"roles A;{times(line)}"
+
+
+def told(front):
+    return f"{front}roles A;A:begin ();"
+
+
+def names():
+    """Names, all different and most of them short, as many as fit."""
+    letters = [chr(code) for code in (*range(65, 91), *range(97, 123))]
+    whole = [a + b + c + d for a in letters for b in letters for c in letters for d in letters]
+    return ",".join(whole[:SIZE // 5])
+
+
+NARRATIONS = {
+    "parentheses in a narration": (lambda: f"roles A;A:end {times('(')}", 2),
+    "lines `A:end();`": (lambda: lines("A:end();"), 2),
+    "lines `A:new(x:Un);`": (lambda: lines("A:new(x:Un);"), 2),
+    "lines that pass a message": (lambda: lines("A to A on c:a as x;"), 2),
+    "roles": (lambda: f"roles A{times(',A')};", 2),
+    "one declaration of names in a narration": (lambda: told(f"free {times('a,')}a;"), 2),
+    "declarations of one name in a narration": (lambda: told(times("free a;")), 2),
+    "different names": (lambda: told(f"free {names()};"), 2),
+    "one tuple of names in a line": (lambda: f"free a;roles A;A:end ({times('a,')}a);", 2),
+    "pair types in a shared name": (lambda: told(f"type a=Un;shared x:{doubled('a', lambda t, u: f'(x:{t},{u})')};"), 2),
+    "one tuple type in a shared name": (lambda: told(f"type a=Un;shared x:({times('x:a,')}a);"), 2),
+}
+
+BENCHES = {
+    "parentheses in a bench": (lambda: f"put A{{out {times('(')}", 2),
+    "parts": (lambda: times("put A{stop}"), 2),
+    "parts that are dropped": (lambda: times("drop A;"), 2),
+    "shared names": (lambda: times("shared k:();"), 2),
+    "one declaration of names in a bench": (lambda: f"free {times('a,')}a;drop A;", 2),
+    "pairs in pairs in a part": (lambda: f"free a;put A{{out a {doubled('a', lambda m, n: f'({m},{n})')}}}", 2),
+    "`out () ()` in groups in a part": (lambda: f"put A{{{groups('out()()')}}}", 2),
+    "one tuple type in a bench": (lambda: f"type a=Un;shared x:({times('x:a,')}a);", 2),
+}
+
+PRINTED = {"uses of a rule with one premise, printed": (lambda: FILES["uses of a rule with one premise"][0](), 0)}
+
+ALL = [("check", FILES), ("narrate", NARRATIONS), ("bench", BENCHES), ("print", PRINTED)]
+
+
 def linked(room):
     """The proved object, linked as in a package."""
     kit = os.path.dirname(os.path.dirname(os.path.realpath(subprocess.check_output(["which", "rt"], text=True).strip())))
@@ -108,6 +154,21 @@ def linked(room):
     subprocess.run(["gcc", "-static", "-o", program, f"{ROOT}/crates/cryptyc/out/cryptyc.o",
                     f"{kit}/c/libos_c.a", f"{kit}/c/liblibc_c.a"], check=True)
     return program
+
+
+def measured(room, program, command, name, text, wanted):
+    """Prints the row of a file, and gives how much memory it takes for each of its bytes, or 0 of a small file."""
+    with open(f"{room}/file", "w", encoding="ascii") as file:
+        file.write(text)
+    ran = subprocess.run([f"{room}/peak", f"{room}/file", program, command], capture_output=True, text=True)
+    if ran.returncode:
+        sys.exit(f"{program} can't be run")
+    status, kilobytes = map(int, ran.stdout.split())
+    if status != wanted:
+        sys.exit(f"{name}: status {status}, wanted {wanted}")
+    memory = kilobytes * 1024
+    print(f"| {name} | `{command}` | {len(text):,} | {memory / 1e6:.1f} MB | {memory / len(text):.1f} |", flush=True)
+    return memory / len(text) if len(text) > 1_000_000 else 0
 
 
 def main():
@@ -120,23 +181,11 @@ def main():
     with tempfile.TemporaryDirectory() as room:
         program = os.path.abspath(given.program) if given.program else linked(room)
         subprocess.run(["gcc", "-O1", "-static", "-o", f"{room}/peak", f"{ROOT}/bench/peak.c"], check=True)
-        print("| File | Bytes | Memory | Bytes a byte of the file |\n|---|---|---|---|")
-        for name, (made, wanted) in FILES.items():
-            if given.only not in name:
-                continue
-            text = made()
-            with open(f"{room}/file", "w", encoding="ascii") as file:
-                file.write(text)
-            ran = subprocess.run([f"{room}/peak", f"{room}/file", program, "check"], capture_output=True, text=True)
-            if ran.returncode:
-                sys.exit(f"{program} can't be run")
-            status, kilobytes = map(int, ran.stdout.split())
-            if status != wanted:
-                sys.exit(f"{name}: status {status}, wanted {wanted}")
-            memory = kilobytes * 1024
-            rate = memory / len(text)
-            over_most |= len(text) > 1_000_000 and rate > given.most
-            print(f"| {name} | {len(text):,} | {memory / 1e6:.1f} MB | {rate:.1f} |", flush=True)
+        print("| File | Command | Bytes | Memory | Bytes a byte of the file |\n|---|---|---|---|---|")
+        for command, files in ALL:
+            for name, (made, wanted) in files.items():
+                if given.only in name:
+                    over_most |= measured(room, program, command, name, made(), wanted) > given.most
     return over_most
 
 
