@@ -1,15 +1,14 @@
 -- The places of each eighth token of a text.
-use Rattle.std.proofs.Common.{◌≡◌, ℕ, zero, suc, ◌+◌, ◌-◌, ◌*◌, ◌<◌, ◌≤◌, Bool, true, false, eqb, Option, Some, None, MatchOption, List, [], ◌∷◌, ◌++◌, length, drop, take, map, slice_get, refl, length-append, sym, ◌∙◌, ap, subst, arith, length-drop, drop-drop, inl, inr}
-use Rattle.std.proofs.lemmas.Bool.{cases_lt, eqb-true, eq-eqb, false≢true}
+use Rattle.std.proofs.Common.{◌≡◌, ℕ, zero, suc, ◌+◌, ◌-◌, ◌*◌, ◌<◌, ◌≤◌, Bool, Option, Some, None, MatchOption, List, [], ◌∷◌, ◌++◌, length, drop, take, map, slice_get, refl, length-append, sym, ◌∙◌, ap, subst, arith, length-drop, drop-drop, inl, inr}
+use Rattle.std.proofs.lemmas.Bool.{cases_lt}
 use Rattle.std.proofs.lemmas.Str.{IsUtf8-drop, IsCharBoundary-start, IsCharBoundary-from_rest}
-use Rattle.std.specs.Option.{option_eq}
 use Rattle.std.specs.Str.{IsUtf8, IsCharBoundary}
 use Rattle.spi_lex.specs.declared.token.Token.{Token}
 use Rattle.spi_lex.specs.declared.scan.Shape.TheVariants as shapes
 use Rattle.spi_lex.specs.Words.{words_of}
 use Rattle.spi_lex.specs.Lexing.{LexPiece, Leads, here, past_gap, past_piece, token_of}
 use Rattle.spi_lex.specs.Left.{left_of, tokens_in, later_in, end_of}
-use Rattle.spi_lex.specs.Places.{IsPlace, ArePlaces, AreRising, start_of}
+use Rattle.spi_lex.specs.Places.{IsPlace, ArePlaces, AreRising, IsNotBefore, start_of}
 use Rattle.spi_lex.specs.Writing.{AreSpans, spans_of}
 use Rattle.spi_lex.specs.declared.token.Kind.{Kind}
 use Rattle.spi_lex.specs.declared.token.Kind.TheVariants as kinds
@@ -197,13 +196,17 @@ all_taken text places count end ahead ahead_some h =
 
 -- ---- tokens and their places
 
--- what isn't nothing is a token
+-- what isn't nothing is a kind of token
+some_kind : (kind : Seen) → (kind ≡ seen.Nothing → ⊥) → (k : Kind) × (seen_kind kind ≡ Some k)
+some_kind seen.Nothing some = absurd (some refl)
+some_kind (seen.Word word) some = (kinds.Word word.now, refl)
+some_kind (seen.Reserved word) some = (kinds.Reserved word, refl)
+some_kind (seen.Number value) some = (kinds.Number value, refl)
+some_kind (seen.Mark m) some = (kinds.Mark m, refl)
+
+-- and so the first of the tokens
 pub next_is : (kind : Seen) (span : Span) (behind : List Token) → (kind ≡ seen.Nothing → ⊥) → (k : Kind) × (tokens_from (seen_kind kind) span behind ≡ record { kind = k; span = span } ∷ behind)
-next_is seen.Nothing span behind some = absurd (some refl)
-next_is (seen.Word word) span behind some = (kinds.Word word.now, refl)
-next_is (seen.Reserved word) span behind some = (kinds.Reserved word, refl)
-next_is (seen.Number value) span behind some = (kinds.Number value, refl)
-next_is (seen.Mark m) span behind some = (kinds.Mark m, refl)
+next_is kind span behind some = (let k = some_kind kind some in (k.0, ap (λ (o : Option Kind). tokens_from o span behind) k.1))
 
 pub nothing_left : (kind : Seen) (span : Span) (behind : List Token) → kind ≡ seen.Nothing → tokens_from (seen_kind kind) span behind ≡ []
 nothing_left kind span behind none = ap (λ (k : Seen). tokens_from (seen_kind k) span behind) none
@@ -226,10 +229,6 @@ rises at end (x ∷ xs) h (suc n) (suc m) a b lt e f = rises x.span.to end xs h.
 
 -- ---- the number of the token that begins at an offset
 
--- no token before number n begins there
-abbrev pub IsNotBefore : List Token → ℕ → Option ℕ → ℕ → Type 0
-IsNotBefore all from start number = (n : ℕ) → from ≤ n → n ≤ length all → start ≡ start_of (drop n all) → number ≤ n
-
 pub at_the_end : (all : List Token) (from : ℕ) (start : Option ℕ) (number : ℕ) → number ≤ length all → [] ≡ drop number all → IsNotBefore all from start number
     → (n : ℕ) → from ≤ n → n ≤ length all → start ≡ start_of (drop n all) → number ≡ n
 at_the_end all from start number within e before n le few there =
@@ -245,13 +244,20 @@ there_is [] (suc n) from e = cc
 there_is (x ∷ xs) zero from e = (x, refl, cc)
 there_is (x ∷ xs) (suc n) from e = there_is xs n from e
 
-pub same_start : (start : Option ℕ) (from : ℕ) → option_eq eqb start (Some from) ≡ true → start ≡ Some from
-same_start None from e = cc
-same_start (Some x) from e = ap Some (eqb-true x from e)
+pub none_there : (all : List Token) (n : ℕ) → n ≤ length all → None ≡ start_of (drop n all) → length all ≡ n
+none_there [] n le e = omega arith
+none_there (x ∷ xs) zero le e = cc
+none_there (x ∷ xs) (suc n) le e = (let same = none_there xs n (omega arith) e in omega arith)
 
-pub other_start : (start : Option ℕ) (from : ℕ) → option_eq eqb start (Some from) ≡ false → start ≡ Some from → ⊥
-other_start None from e is = cc
-other_start (Some x) from e is = (let same : x ≡ from = cc in false≢true (sym e ∙ eq-eqb x from same))
+-- none that begins there stands before a token that begins no further on
+pub not_before : (all : List Token) (b : Token) (more : List Token) (from start next : ℕ) → AreRising all → b ∷ more ≡ drop next all → b.span.from ≤ start → IsNotBefore all from (Some start) next
+not_before all b more from start next up is on n le few there =
+    let first = first_left all next b more is in
+    let a = there_is all n start there in
+    elim (cases_lt n next) [
+      | inl less ↦ absurd (let rise = up n next a.0 b less a.1 first.0 in let same = a.2 in omega arith)
+      | inr least ↦ least
+    ]
 
 pub found_there : (all : List Token) (a : Token) (more : List Token) (from : ℕ) (start : Option ℕ) (number : ℕ) → AreRising all → a ∷ more ≡ drop number all → start ≡ Some a.span.from → IsNotBefore all from start number
     → (n : ℕ) → from ≤ n → n ≤ length all → start ≡ start_of (drop n all) → number ≡ n
@@ -283,11 +289,10 @@ none_at (x ∷ xs) zero e = cc
 none_at (x ∷ xs) (suc n) e = none_at xs n e
 
 pub first_of : (kind : Seen) (span : Span) (behind : List Token) → (kind ≡ seen.Nothing → ⊥) → (t : Token) × (more : List Token) × (tokens_from (seen_kind kind) span behind ≡ t ∷ more) × (seen_kind kind ≡ Some t.kind) × (span ≡ t.span)
-first_of seen.Nothing span behind some = absurd (some refl)
-first_of (seen.Word word) span behind some = (record { kind = kinds.Word word.now; span = span }, behind, refl, refl, refl)
-first_of (seen.Reserved word) span behind some = (record { kind = kinds.Reserved word; span = span }, behind, refl, refl, refl)
-first_of (seen.Number value) span behind some = (record { kind = kinds.Number value; span = span }, behind, refl, refl, refl)
-first_of (seen.Mark m) span behind some = (record { kind = kinds.Mark m; span = span }, behind, refl, refl, refl)
+first_of kind span behind some =
+    let k = some_kind kind some in
+    let token : Token = record { kind = k.0; span = span } in
+    (token, behind, ap (λ (o : Option Kind). tokens_from o span behind) k.1, k.1, refl)
 
 pub told_at : (all left : List Token) (n : ℕ) (r : Option Next) → left ≡ drop n all → MatchOption r (left ≡ []) (IsFirstOf left) → MatchOption r (slice_get all n ≡ None) (IsAt all n)
 told_at all left n None is e = none_at all n (sym is ∙ e)

@@ -79,14 +79,14 @@ left (suc turns) later at text =
 abbrev pub left_of : Bool → ℕ → List ℕ → List Token
 left_of later at text = left (length text) later at text
 
--- The tokens of a whole text: where the first three are the word `version`, the number 2 and a semicolon, the
--- words of version 2 are reserved. These three are the same in both versions.
-abbrev pub tokens_in : List ℕ → List Token
-tokens_in text = left_of (is_version_2 (kinds_of (left_of false 0 text))) 0 text
-
--- whether the words of version 2 are reserved in a text
+-- Whether the words of version 2 are reserved in a text: where its first three tokens are the word `version`, the
+-- number 2 and a semicolon. These three are the same in both versions.
 abbrev pub later_in : List ℕ → Bool
 later_in text = is_version_2 (kinds_of (left_of false 0 text))
+
+-- the tokens of a whole text
+abbrev pub tokens_in : List ℕ → List Token
+tokens_in text = left_of (later_in text) 0 text
 
 -- gaps alone lead to the end of a text
 abbrev pub OnlyGaps : List ℕ → Type 0

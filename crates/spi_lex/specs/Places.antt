@@ -1,5 +1,5 @@
 -- Where the tokens of a text with certain numbers stand.
-use Rattle.std.specs.Prelude.{◌≡◌, ℕ, ◌*◌, ◌<◌, Bool, Option, Some, None, List, [], ◌∷◌, drop, slice_get}
+use Rattle.std.specs.Prelude.{◌≡◌, ℕ, ◌*◌, ◌<◌, ◌≤◌, Bool, Option, Some, None, List, [], ◌∷◌, length, drop, slice_get}
 use Rattle.std.specs.Str.{IsCharBoundary}
 use Rattle.spi_lex.specs.declared.token.Token.{Token}
 use Rattle.spi_lex.specs.Left.{left_of, tokens_in}
@@ -21,3 +21,8 @@ AreRising ts = (n m : ℕ) (a b : Token) → n < m → slice_get ts n ≡ Some a
 abbrev pub start_of : List Token → Option ℕ
 start_of [] = None
 start_of (token ∷ more) = Some token.span.from
+
+-- no token from number `from` on begins there and has a lower number
+abbrev pub IsNotBefore : List Token → ℕ → Option ℕ → ℕ → Type 0
+IsNotBefore all from start number =
+    (n : ℕ) → from ≤ n → n ≤ length all → start ≡ start_of (drop n all) → number ≤ n

@@ -96,3 +96,16 @@ pub fn fault_in(text: &str) -> Option<LexFault>
     }
     None
 }
+
+/// The fault of a text that has no tokens, and none where it has. The last of those that are taken one by one ends here.
+pub fn fault_behind(text: &str, end: u32) -> Option<LexFault>
+    requires within { length text.now ≤ 16_777_216 }
+    requires end { end ≡ end_of 0 (tokens_in text.now) }
+    ensures { MatchOption result (Lexes text.now (Ok (tokens_in text.now)))
+        (λ fault. Lexes text.now (Err fault)) }
+{
+    if ends_behind(text, end) {
+        return None;
+    }
+    fault_in(text)
+}

@@ -93,10 +93,10 @@ impl<'t> Seen<'t> {
 impl<'t> Words<'t> {
     ghost use Rattle.std.specs.Str.{IsCharBoundary};
     ghost use Rattle.spi_lex.specs.declared.scan.Shape.TheVariants as shapes;
-    ghost use Rattle.spi_lex.specs.Lexing.{is_version_2, kinds_of};
+    ghost use Rattle.spi_lex.specs.Lexing.{kinds_of};
     ghost use Rattle.spi_lex.specs.Front.{IsFront};
     ghost use Rattle.spi_lex.specs.Writing.{AreKinds, AreSpans, spans_of};
-    ghost use Rattle.spi_lex.specs.Left.{left_of, tokens_in};
+    ghost use Rattle.spi_lex.specs.Left.{left_of, later_in, tokens_in};
     ghost use Rattle.spi_lex.specs.Reader.{seen_kind, tokens_from, tokens_behind, tokens_left};
 
     /// The tokens of a text of at most 16,777,216 bytes, the first one next. Where the first three are the
@@ -104,7 +104,7 @@ impl<'t> Words<'t> {
     pub fn of(text: &'t str) -> Words<'t>
         requires { length text.now ≤ 16_777_216 }
         ensures left { tokens_left result ≡ tokens_in text.now }
-        ensures later { result.later ≡ is_version_2 (kinds_of (left_of false 0 text.now)) }
+        ensures later { result.later ≡ later_in text.now }
         // Words and numbers are in form, and the tokens stand one after another within the text.
         ensures kinds { AreKinds (kinds_of (tokens_in text.now)) }
         ensures spans { AreSpans 0 (spans_of (tokens_in text.now)) (length text.now) }
@@ -257,7 +257,7 @@ impl<'t> Words<'t> {
     /// behind it only where it has to.
     fn begin_version_2(self, _text: &str) -> bool
         requires { tokens_left self ≡ left_of false 0 _text.now }
-        ensures { result ≡ is_version_2 (kinds_of (left_of false 0 _text.now)) }
+        ensures { result ≡ later_in _text.now }
     {
         if !self.kind.is_version() {
             return false;

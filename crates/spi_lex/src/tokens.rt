@@ -8,8 +8,8 @@ ghost use Rattle.spi_lex.specs.Reader.{tokens_left};
 ghost use Rattle.spi_lex.specs.Writing.{AreKinds, AreSpans, spans_of};
 
 use crate::LexFault;
-use crate::ending::{ends_behind, fault_in, text_of};
-use crate::numbered::{Numbered, places_of};
+use crate::ending::{fault_behind, text_of};
+use crate::numbered::Numbered;
 use crate::reader::{Seen, Words};
 use crate::token::Token;
 use spi_text::Span;
@@ -35,19 +35,6 @@ pub enum Rest<'t> {
     Text(Words<'t>),
 }
 
-/// The fault of a text that has no tokens, and none where it has. The last of those that are taken one by one ends here.
-fn fault_behind(text: &str, end: u32) -> Option<LexFault>
-    requires within { length text.now ≤ 16_777_216 }
-    requires end { end ≡ end_of 0 (tokens_in text.now) }
-    ensures { MatchOption result (Lexes text.now (Ok (tokens_in text.now)))
-        (λ fault. Lexes text.now (Err fault)) }
-{
-    if ends_behind(text, end) {
-        return None;
-    }
-    fault_in(text)
-}
-
 /// The tokens of a text by their numbers.
 fn by_number<'t>(alloc: Global, text: &'t str) -> Result<Tokens<'t>, LexFault>
     requires { length text.now ≤ 16_777_216 }
@@ -56,19 +43,12 @@ fn by_number<'t>(alloc: Global, text: &'t str) -> Result<Tokens<'t>, LexFault>
     ensures kinds { IfOk result (λ tokens. AreKinds (kinds_of (listed tokens))) }
     ensures spans { IfOk result (λ tokens. AreSpans 0 (spans_of (listed tokens)) (length text.entry.now)) }
 {
-    let later = Words::of(text).is_later();
-    let (places, count, end) = match places_of(alloc, text) {
-        Ok(found) => found,
-        Err(_) => return Err(LexFault::NoMemory),
+    let Ok((numbered, end)) = Numbered::of(alloc, text) else {
+        return Err(LexFault::NoMemory);
     };
     match fault_behind(text, end) {
         Some(fault) => Err(fault),
-        None => Ok(Tokens::Text(Numbered {
-            text,
-            later,
-            places,
-            count,
-        })),
+        None => Ok(Tokens::Text(numbered)),
     }
 }
 
@@ -81,7 +61,8 @@ impl<'t> Tokens<'t> {
         ensures err { IfErr result (IsLexFault bytes.entry.now) }
         // Words and numbers are in form, and the tokens stand one after another within the bytes.
         ensures kinds { IfOk result (λ tokens. AreKinds (kinds_of (listed tokens))) }
-        ensures spans { IfOk result (λ tokens. AreSpans 0 (spans_of (listed tokens)) (length bytes.entry.now)) }
+        ensures spans { IfOk result
+            (λ tokens. AreSpans 0 (spans_of (listed tokens)) (length bytes.entry.now)) }
     {
         match text_of(bytes) {
             Ok(text) => by_number(alloc, text),
@@ -96,7 +77,7 @@ impl<'t> Tokens<'t> {
     {
         match self {
             Tokens::List(list) => list.len() as u32,
-            Tokens::Text(text) => text.count,
+            Tokens::Text(text) => text.count(),
         }
     }
 

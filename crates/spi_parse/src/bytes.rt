@@ -12,7 +12,7 @@ ghost use Rattle.spi_parse.specs.Bytes.{ParsesBytes, start_of_fault};
 use crate::cursor::{Reader, syntax};
 use crate::fault::{ByteFault, Fault, Stop};
 use crate::files::read_file;
-use spi_lex::{Seen, Words, ends_behind, fault_in, text_of};
+use spi_lex::{Seen, Words, fault_behind, fault_in, text_of};
 use spi_tree::{Room, Tree};
 
 /// The tree that a file's bytes spell, with the spans of its nodes and words, or the first fault. It is what `parse` gives of
@@ -54,10 +54,7 @@ fn whole<'b>(text: &str, end: u32, tree: Tree<'b>) -> Result<Tree<'b>, ByteFault
     requires tree { Parses file_of (Ok tree) (tokens_in text.now) }
     ensures { ParsesBytes file_of result text.now }
 {
-    if ends_behind(text, end) {
-        return Ok(tree);
-    }
-    match fault_in(text) {
+    match fault_behind(text, end) {
         Some(fault) => Err(ByteFault::Lexical(fault)),
         None => Ok(tree),
     }

@@ -93,7 +93,7 @@ pub fn decl_at<'b>(
     decl_in(room, &Tokens::List(tokens), from, version)
 }
 
-/// The same, of a list or of a text.
+/// As `decl_at`, of the tokens of a list or of a text.
 pub fn decl_in<'b>(
     room: Room<'b>,
     tokens: &Tokens<'_>,
@@ -132,7 +132,7 @@ pub fn type_at<'b>(
     type_in(room, &Tokens::List(tokens), from, version)
 }
 
-/// The same, of a list or of a text.
+/// As `type_at`, of the tokens of a list or of a text.
 pub fn type_in<'b>(
     room: Room<'b>,
     tokens: &Tokens<'_>,
@@ -171,7 +171,7 @@ pub fn message_at<'b>(
     message_in(room, &Tokens::List(tokens), from, version)
 }
 
-/// The same, of a list or of a text.
+/// As `message_at`, of the tokens of a list or of a text.
 pub fn message_in<'b>(
     room: Room<'b>,
     tokens: &Tokens<'_>,
@@ -210,7 +210,7 @@ pub fn process_at<'b>(
     process_in(room, &Tokens::List(tokens), from, version)
 }
 
-/// The same, of a list or of a text.
+/// As `process_at`, of the tokens of a list or of a text.
 pub fn process_in<'b>(
     room: Room<'b>,
     tokens: &Tokens<'_>,
