@@ -29,7 +29,8 @@ fn marked_name_at(
 ) -> ReadPart<SWord>
     requires text { IsTextOf version (listed tokens.now) }
     ensures read { let pieces = λ (w : words.SWord). a_word false w (a_mark mark []) in
-        Reads (λ w. w) pieces (λ w. AreWordsFit (version == 2) (kinds_in (pieces w))) result (listed tokens.now) at }
+        Reads (λ w. w) pieces (λ w. AreWordsFit (version == 2) (kinds_in (pieces w))) result
+        (listed tokens.now) at }
     ensures within { IfOk result (λ r. r.1 ≤ length (listed tokens.now)) }
 {
     let (name, mark_at) = take_word(alloc, tokens, at)?;

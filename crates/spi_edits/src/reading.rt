@@ -42,10 +42,10 @@ pub fn read_bench<'b>(room: Room<'b>, tokens: &[Token]) -> Result<BenchText<'b>,
     bench_in(room, &Tokens::List(tokens))
 }
 
-/// The same, of the tokens of a list or of a text.
+/// As `read_bench`, of the tokens of a list or of a text.
 pub fn bench_in<'b>(room: Room<'b>, tokens: &Tokens<'_>) -> Result<BenchText<'b>, ParseFault>
     requires size { length (listed tokens.now) ≤ 16_777_216 }
-    requires words { AreWordsFit (is_version_2 (kinds_of (listed tokens.now))) (kinds_of (listed tokens.now)) }
+    requires words { let kinds = kinds_of (listed tokens.now) in AreWordsFit (is_version_2 kinds) kinds }
     ensures { ParsesBench bench_of result (listed tokens.now) }
 {
     let (heading, start) = heading_at(room, tokens)?;

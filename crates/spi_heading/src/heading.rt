@@ -66,7 +66,7 @@ pub struct Heading<'b> {
 /// a shared name begins ends it. The fault is that of the first part that isn't read.
 pub fn heading_at<'b>(room: Room<'b>, tokens: &Tokens<'_>) -> ReadPart<Heading<'b>>
     requires size { length (listed tokens.now) ≤ 16_777_216 }
-    requires words { AreWordsFit (is_version_2 (kinds_of (listed tokens.now))) (kinds_of (listed tokens.now)) }
+    requires words { let kinds = kinds_of (listed tokens.now) in AreWordsFit (is_version_2 kinds) kinds }
     ensures read { ReadsHeading result (listed tokens.now) }
     ensures text { IfOk result (λ r. IsTextOf r.0.version (listed tokens.now)) }
     ensures within { IfOk result (λ r. r.1 ≤ length (listed tokens.now)) }

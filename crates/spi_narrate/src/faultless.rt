@@ -51,10 +51,10 @@ pub fn read_narration<'b>(room: Room<'b>, tokens: &[Token]) -> Result<Narration<
     narration_in(room, &Tokens::List(tokens))
 }
 
-/// The same, of the tokens of a list or of a text.
+/// As `read_narration`, of the tokens of a list or of a text.
 pub fn narration_in<'b>(room: Room<'b>, tokens: &Tokens<'_>) -> Result<Narration<'b>, NarrateFault>
     requires size { length (listed tokens.now) ≤ 16_777_216 }
-    requires words { AreWordsFit (is_version_2 (kinds_of (listed tokens.now))) (kinds_of (listed tokens.now)) }
+    requires words { let kinds = kinds_of (listed tokens.now) in AreWordsFit (is_version_2 kinds) kinds }
     ensures { ReadsNarration narration_of result (listed tokens.now) }
 {
     match parse_narration(room, tokens) {

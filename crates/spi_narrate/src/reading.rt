@@ -23,7 +23,7 @@ use spi_tree::Room;
 /// limit. `NoMemory` comes where memory runs out.
 pub fn parse_narration<'b>(room: Room<'b>, tokens: &Tokens<'_>) -> Result<Narration<'b>, ParseFault>
     requires size { length (listed tokens.now) ≤ 16_777_216 }
-    requires words { AreWordsFit (is_version_2 (kinds_of (listed tokens.now))) (kinds_of (listed tokens.now)) }
+    requires words { let kinds = kinds_of (listed tokens.now) in AreWordsFit (is_version_2 kinds) kinds }
     ensures { ParsesNarration narration_of result (listed tokens.now) }
 {
     let (heading, roles_start) = heading_at(room, tokens)?;

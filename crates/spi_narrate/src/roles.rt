@@ -20,7 +20,8 @@ pub fn roles_at<'b>(
     version: u32,
 ) -> ReadPart<(SWord, Vec<SWord>)>
     requires text { IsTextOf version (listed tokens.now) }
-    ensures { Reads (λ r. r.0 ∷ r.1.items) whole_roles (AreWholeRoles (version == 2)) result (listed tokens.now) at }
+    ensures { Reads (λ r. r.0 ∷ r.1.items) whole_roles (AreWholeRoles (version == 2)) result
+        (listed tokens.now) at }
 {
     let first_at = take_spelled(tokens, at, "roles")?;
     let (first, behind) = take_word(room.alloc, tokens, first_at)?;
