@@ -23,7 +23,7 @@ use crate::status::Status;
 use crate::text::Text;
 use crate::upgrade::upgraded;
 use crate::verify::verified;
-use spi_lex::lex;
+use spi_lex::Tokens;
 use spi_play::Player;
 use spi_scope::{File, faults_stand_at_nodes};
 use std::alloc::Global;
@@ -85,7 +85,7 @@ fn on_tokens(alloc: Global, command: Command, bytes: &[u8]) -> Result<Answer, St
     requires sized { length bytes.now ≤ 16_777_216 }
     ensures { (players : List Seen) → IsAnsweredBy command bytes.now players players result }
 {
-    match lex(alloc, bytes) {
+    match Tokens::of_bytes(alloc, bytes) {
         Ok(tokens) => match command {
             Command::Narrate => narrated(alloc, bytes, &tokens),
             Command::Bench => benched(alloc, bytes, &tokens),

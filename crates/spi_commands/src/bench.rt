@@ -1,6 +1,7 @@
 // The command `bench`.
 ghost use Rattle.std.specs.Prelude.{◌≡◌, ◌+◌, ◌<◌, ◌≤◌, ◌^◌, ◌++◌, length, IfOk, IfErr, OnOk, OnErr, Ok, Err};
 ghost use Rattle.spi_lex.specs.Lexing.{Lexes, kinds_of};
+ghost use Rattle.spi_lex.specs.Numbered.{listed};
 ghost use Rattle.spi_lex.specs.Writing.{AreKinds};
 ghost use Rattle.spi_edits.specs.Edits.{Bench};
 ghost use Rattle.spi_edits.specs.Views.{bench_of};
@@ -14,8 +15,8 @@ use crate::causes::{out_of_scope, refused_for, shown_count, shown_word, unparsed
 use crate::reading::Unread;
 use crate::status::Status;
 use bumpalo::Bump;
-use spi_edits::{BenchText, read_bench};
-use spi_lex::Token;
+use spi_edits::{BenchText, bench_in};
+use spi_lex::Tokens;
 use spi_parse::ParseFault;
 use spi_scope::faults_stand_at_nodes;
 use spi_tree::Room;
@@ -23,8 +24,8 @@ use spi_workbench::{Answer as Judged, Refusal as Unjudged, Verdicts, judge_edits
 use std::alloc::Global;
 
 /// What `bench` answers on these bytes, which have these tokens.
-pub fn benched(alloc: Global, bytes: &[u8], tokens: &[Token]) -> Result<Answer, Stop>
-    requires { HasTokens bytes.now tokens.now }
+pub fn benched(alloc: Global, bytes: &[u8], tokens: &Tokens<'_>) -> Result<Answer, Stop>
+    requires { HasTokens bytes.now (listed tokens.now) }
     ensures ok { IfOk result (λ answer. BenchesTo bytes.now answer.status answer.output.items) }
     ensures err { OnErr result (result ≡ Err Stop.NoMemory) }
 {
@@ -33,8 +34,8 @@ pub fn benched(alloc: Global, bytes: &[u8], tokens: &[Token]) -> Result<Answer, 
 }
 
 /// The same, of a bench whose trees lie in this room.
-fn benched_in(room: Room<'_>, bytes: &[u8], tokens: &[Token]) -> Result<Answer, Stop>
-    requires { HasTokens bytes.now tokens.now }
+fn benched_in(room: Room<'_>, bytes: &[u8], tokens: &Tokens<'_>) -> Result<Answer, Stop>
+    requires { HasTokens bytes.now (listed tokens.now) }
     ensures ok { IfOk result (λ answer. BenchesTo bytes.now answer.status answer.output.items) }
     ensures err { OnErr result (result ≡ Err Stop.NoMemory) }
 {
@@ -47,17 +48,17 @@ fn benched_in(room: Room<'_>, bytes: &[u8], tokens: &[Token]) -> Result<Answer, 
 }
 
 /// The verdicts of the bench that the tokens of these bytes spell.
-fn verdicts_of(room: Room<'_>, bytes: &[u8], tokens: &[Token]) -> Result<Verdicts, Unread>
+fn verdicts_of(room: Room<'_>, bytes: &[u8], tokens: &Tokens<'_>) -> Result<Verdicts, Unread>
     requires within { length bytes.now ≤ 16_777_216 }
-    requires few { length tokens.now ≤ 16_777_216 }
-    requires lexed { Lexes bytes.now (Ok tokens.now) }
-    requires kinds { AreKinds (kinds_of tokens.now) }
+    requires few { length (listed tokens.now) ≤ 16_777_216 }
+    requires lexed { Lexes bytes.now (Ok (listed tokens.now)) }
+    requires kinds { AreKinds (kinds_of (listed tokens.now)) }
     ensures verdicts { IfOk result (λ verdicts. (b : Bench) × IsBenchOf bytes.now b
         × IsJudged b (length bytes.now) verdicts) }
     ensures unread { IfErr result (IsUnreadBy (RefusesBench bytes.now)) }
 {
     let alloc = room.alloc;
-    match read_bench(room, tokens) {
+    match bench_in(room, tokens) {
         Ok(text) => judged(alloc, text, bytes.len() as u32),
         Err(ParseFault::Syntax { token }) => Err(unparsed(alloc, 20, bytes, tokens, token)),
         Err(ParseFault::TooDeep { token }) => Err(unparsed(alloc, 21, bytes, tokens, token)),

@@ -2,13 +2,14 @@
 ghost use Rattle.std.specs.Prelude.{◌≡◌, ◌≤◌, ◌⊎◌, [], length, drop, IfOk, OnErr, Err};
 ghost use Rattle.std.specs.Fmt.{decimal};
 ghost use Rattle.spi_lex.specs.Lexing.{Lexes};
+ghost use Rattle.spi_lex.specs.Numbered.{listed};
 ghost use Rattle.spi_scope.specs.FaultPlaces.{span_from};
 ghost use Rattle.spi_commands.specs.Refusals.{IsRefusedFor, IsUnlexed, start_of_fault, scope_number, scope_shown};
 ghost use Rattle.spi_commands.specs.Reading.{IsUnreadBy, IsCauseOf, StandsNamed, TellsRefusal};
 
 use crate::answer::{Answer, Stop, refusal};
 use crate::reading::Unread;
-use spi_lex::{LexFault, Token};
+use spi_lex::{LexFault, Tokens};
 use spi_report::Refusal;
 use spi_scope::ScopeFault;
 use spi_text::{Span, Text};
@@ -30,23 +31,23 @@ pub fn unlexed(alloc: Global, bytes: &[u8], fault: LexFault) -> Unread
 }
 
 /// The refusal of bytes that have a fault of syntax at a token, or at their end.
-pub fn unparsed(alloc: Global, number: u32, bytes: &[u8], tokens: &[Token], token: u32) -> Unread
+pub fn unparsed(alloc: Global, number: u32, bytes: &[u8], tokens: &Tokens<'_>, token: u32) -> Unread
     requires within { length bytes.now ≤ 16_777_216 }
-    requires token { token ≤ length tokens.now }
-    ensures { TellsRefusal number (start_of_fault bytes.now (drop token tokens.now)) [] result }
+    requires token { token ≤ length (listed tokens.now) }
+    ensures { TellsRefusal number (start_of_fault bytes.now (drop token (listed tokens.now))) [] result }
 {
     unspelled(alloc, number, start(bytes, tokens, token))
 }
 
 /// Where a token begins, and where the file ends.
-fn start(bytes: &[u8], tokens: &[Token], token: u32) -> u32
+fn start(bytes: &[u8], tokens: &Tokens<'_>, token: u32) -> u32
     requires within { length bytes.now ≤ 16_777_216 }
-    requires token { token ≤ length tokens.now }
-    ensures { result ≡ start_of_fault bytes.now (drop token tokens.now) }
+    requires token { token ≤ length (listed tokens.now) }
+    ensures { result ≡ start_of_fault bytes.now (drop token (listed tokens.now)) }
 {
-    match &tokens[token as usize..] {
-        [next, ..] => next.span.from,
-        [] => bytes.len() as u32,
+    match tokens.get(token) {
+        Some(next) => next.span.from,
+        None => bytes.len() as u32,
     }
 }
 

@@ -1,6 +1,7 @@
 // The command `narrate`.
 ghost use Rattle.std.specs.Prelude.{◌≡◌, ◌≤◌, ◌⊎◌, ℕ, List, Option, length, IfOk, OnErr, Ok, Err};
 ghost use Rattle.spi_lex.specs.Lexing.{Lexes};
+ghost use Rattle.spi_lex.specs.Numbered.{listed};
 ghost use Rattle.spi_narrate.specs.Narrations.{Narration as Told};
 ghost use Rattle.spi_narrate.specs.Reads.{FailsNarration};
 ghost use Rattle.spi_narrate.specs.Views.{narration_of};
@@ -24,16 +25,16 @@ use crate::causes::{out_of_scope, refused_for, shown_count, shown_word, unparsed
 use crate::reading::Unread;
 use bumpalo::Bump;
 use spi_honest::faultless_is_tellable;
-use spi_lex::{Token, one_answer};
-use spi_narrate::{NarrateFault, Narration, one_first_fault, one_narration, read_narration};
+use spi_lex::{Tokens, one_answer};
+use spi_narrate::{NarrateFault, Narration, narration_in, one_first_fault, one_narration};
 use spi_narrator::{Answer as Telling, Refusal as Untold, one_telling, tell, told_files_read_back};
 use spi_scope::faults_stand_at_nodes;
 use spi_tree::Room;
 use std::alloc::Global;
 
 /// What `narrate` answers on these bytes, which have these tokens.
-pub fn narrated(alloc: Global, bytes: &[u8], tokens: &[Token]) -> Result<Answer, Stop>
-    requires { HasTokens bytes.now tokens.now }
+pub fn narrated(alloc: Global, bytes: &[u8], tokens: &Tokens<'_>) -> Result<Answer, Stop>
+    requires { HasTokens bytes.now (listed tokens.now) }
     ensures ok { IfOk result (λ answer. NarratesTo bytes.now answer.status answer.output.items) }
     ensures err { OnErr result (result ≡ Err Stop.NoMemory) }
 {
@@ -42,24 +43,24 @@ pub fn narrated(alloc: Global, bytes: &[u8], tokens: &[Token]) -> Result<Answer,
 }
 
 /// The same, of a narration whose trees lie in this room.
-fn narrated_in(room: Room<'_>, bytes: &[u8], tokens: &[Token]) -> Result<Answer, Stop>
-    requires { HasTokens bytes.now tokens.now }
+fn narrated_in(room: Room<'_>, bytes: &[u8], tokens: &Tokens<'_>) -> Result<Answer, Stop>
+    requires { HasTokens bytes.now (listed tokens.now) }
     ensures ok { IfOk result (λ answer. NarratesTo bytes.now answer.status answer.output.items) }
     ensures err { OnErr result (result ≡ Err Stop.NoMemory) }
 {
     faults_stand_at_nodes();
     let alloc = room.alloc;
-    match read_narration(room, tokens) {
-        Ok(narration) => told(room, bytes, &narration),
+    match narration_in(room, tokens) {
+        Ok(narration) => told(room, bytes, narration),
         Err(fault) => refused_for(alloc, bytes, &unnarrated(alloc, bytes, tokens, &fault)),
     }
 }
 
 /// The refusal of tokens that are those of no faultless narration.
-fn unnarrated(alloc: Global, bytes: &[u8], tokens: &[Token], fault: &NarrateFault) -> Unread
+fn unnarrated(alloc: Global, bytes: &[u8], tokens: &Tokens<'_>, fault: &NarrateFault) -> Unread
     requires within { length bytes.now ≤ 16_777_216 }
-    requires lexed { Lexes bytes.now (Ok tokens.now) }
-    requires fails { FailsNarration fault.now tokens.now }
+    requires lexed { Lexes bytes.now (Ok (listed tokens.now)) }
+    requires fails { FailsNarration fault.now (listed tokens.now) }
     ensures { IsUnreadBy (RefusesNarrate bytes.now) result }
 {
     match fault {
@@ -73,8 +74,8 @@ fn unnarrated(alloc: Global, bytes: &[u8], tokens: &[Token], fault: &NarrateFaul
 }
 
 /// What `narrate` answers on the narration of these bytes.
-fn told<'b>(room: Room<'b>, bytes: &[u8], narration: &Narration<'b>) -> Result<Answer, Stop>
-    requires { SpellsNarration bytes.now (narration_of narration.now) }
+fn told<'b>(room: Room<'b>, bytes: &[u8], narration: Narration<'b>) -> Result<Answer, Stop>
+    requires { SpellsNarration bytes.now (narration_of narration) }
     ensures ok { IfOk result (λ answer. NarratesTo bytes.now answer.status answer.output.items) }
     ensures err { OnErr result (result ≡ Err Stop.NoMemory) }
 {

@@ -5,10 +5,10 @@ use Rattle.spi_commands.proofs.FileRefusals.{stands_named, unlexed_named, unlexe
 use Rattle.spi_commands.proofs.answering.on_tokens.Goals as goal
 
 pub narrated-requires : goal.narrated-requires
-narrated-requires c = rw c.deref.ensures.value (c.requires.sized, c.in-Ok.ensures.ok, c.in-Ok.ensures.kinds, c.in-Ok.ensures.spans)
+narrated-requires c = (c.requires.sized, c.in-Ok.ensures.ok, c.in-Ok.ensures.kinds, c.in-Ok.ensures.spans)
 
 pub benched-requires : goal.benched-requires
-benched-requires c = rw c.deref-in-Bench.ensures.value (c.requires.sized, c.in-Ok.ensures.ok, c.in-Ok.ensures.kinds, c.in-Ok.ensures.spans)
+benched-requires c = (c.requires.sized, c.in-Ok.ensures.ok, c.in-Ok.ensures.kinds, c.in-Ok.ensures.spans)
 
 pub returns-in-Narrate : goal.returns-in-Narrate
 returns-in-Narrate c = λ players. answered_as c.args.command Narrate c.args.bytes.now players c.narrated.result c.in-Narrate.is c.narrated.ensures.ok c.narrated.ensures.err

@@ -1,3 +1,4 @@
+use Rattle.spi_lex.specs.Numbered.{listed}
 use Rattle.spi_commands.specs.Benching.{RefusesBench}
 use Rattle.spi_commands.proofs.AnswerCommands.{unread_answer}
 use Rattle.spi_commands.proofs.FileRefusals.{few_lexed, stands_named}
@@ -7,7 +8,7 @@ use Rattle.spi_commands.proofs.BenchAnswers.{told_to}
 use Rattle.spi_commands.proofs.bench.benched_in.Goals as goal
 
 pub verdicts_of-requires-clause-few : goal.verdicts_of-requires-clause-few
-verdicts_of-requires-clause-few c = few_lexed c.args.bytes.now c.args.tokens.now c.requires
+verdicts_of-requires-clause-few c = few_lexed c.args.bytes.now (listed c.args.tokens.now) c.requires
 
 pub refused_for-requires-clause-stands : goal.refused_for-requires-clause-stands
 refused_for-requires-clause-stands c =

@@ -5,8 +5,8 @@ use Rattle.spi_commands.specs.Benching.{RefusesBench}
 use Rattle.spi_commands.proofs.FileRefusals.{unread_as}
 use Rattle.spi_commands.proofs.bench.verdicts_of.Goals as goal
 
-pub read_bench-requires-clause-words : goal.read_bench-requires-clause-words
-read_bench-requires-clause-words c = kinds_fit _ c.requires.kinds
+pub bench_in-requires-clause-words : goal.bench_in-requires-clause-words
+bench_in-requires-clause-words c = kinds_fit _ c.requires.kinds
 
 pub returns-in-Err-Syntax-clause-unread : goal.returns-in-Err-Syntax-clause-unread
 returns-in-Err-Syntax-clause-unread c =

@@ -1,3 +1,4 @@
+use Rattle.spi_lex.specs.Numbered.{listed}
 use Rattle.spi_parse.proofs.Lexed.{kinds_fit}
 use Rattle.spi_narrate.specs.Views.{narration_of}
 use Rattle.spi_commands.specs.Narrating.{RefusesNarrate}
@@ -7,15 +8,15 @@ use Rattle.spi_commands.proofs.NarrateRefusals.{narrate_named, narrate_within}
 use Rattle.spi_commands.proofs.NarrateAnswers.{narration_of_bytes}
 use Rattle.spi_commands.proofs.narrate.narrated_in.Goals as goal
 
-pub read_narration-requires-clause-size : goal.read_narration-requires-clause-size
-read_narration-requires-clause-size c = few_lexed c.args.bytes.now c.args.tokens.now c.requires
+pub narration_in-requires-clause-size : goal.narration_in-requires-clause-size
+narration_in-requires-clause-size c = few_lexed c.args.bytes.now (listed c.args.tokens.now) c.requires
 
-pub read_narration-requires-clause-words : goal.read_narration-requires-clause-words
-read_narration-requires-clause-words c = kinds_fit _ c.requires.2
+pub narration_in-requires-clause-words : goal.narration_in-requires-clause-words
+narration_in-requires-clause-words c = kinds_fit _ c.requires.2
 
 pub told-requires : goal.told-requires
 told-requires c =
-    (narration_of_bytes c.args.bytes.now c.args.tokens.now (narration_of c.in-Ok.narration) c.requires.0 c.requires.1 c.in-Ok.ensures.0, c.in-Ok.ensures.1)
+    (narration_of_bytes c.args.bytes.now (listed c.args.tokens.now) (narration_of c.in-Ok.narration) c.requires.0 c.requires.1 c.in-Ok.ensures.0, c.in-Ok.ensures.1)
 
 pub refused_for-requires-clause-stands : goal.refused_for-requires-clause-stands
 refused_for-requires-clause-stands c =

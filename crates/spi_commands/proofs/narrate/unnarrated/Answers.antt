@@ -1,5 +1,6 @@
 use Rattle.std.proofs.Common.{[], inl, inr}
 use Rattle.std.specs.Fmt.{decimal}
+use Rattle.spi_lex.specs.Numbered.{listed}
 use Rattle.spi_commands.specs.Refusals.{syntax, too_deep}
 use Rattle.spi_commands.specs.Narrating.{unknown_role, role_twice, narration_too_large, RefusesNarrate}
 use Rattle.spi_commands.proofs.FileRefusals.{unread_as}
@@ -20,16 +21,16 @@ pub returns-in-UnknownRole : goal.returns-in-UnknownRole
 returns-in-UnknownRole c =
     let f = rw c.in-UnknownRole.is at c.requires.fails in
     unread_as (RefusesNarrate c.args.bytes.now) 100 c.in-UnknownRole.span.from c.in-UnknownRole.word c.shown_word.result
-    (inr (inr (inl (f.0, narration_of_bytes c.args.bytes.now c.args.tokens.now f.0 c.requires.within c.requires.lexed f.1, unknown_role c.in-UnknownRole.span f.2)))) c.shown_word.ensures
+    (inr (inr (inl (f.0, narration_of_bytes c.args.bytes.now (listed c.args.tokens.now) f.0 c.requires.within c.requires.lexed f.1, unknown_role c.in-UnknownRole.span f.2)))) c.shown_word.ensures
 
 pub returns-in-RoleTwice : goal.returns-in-RoleTwice
 returns-in-RoleTwice c =
     let f = rw c.in-RoleTwice.is at c.requires.fails in
     unread_as (RefusesNarrate c.args.bytes.now) 101 c.in-RoleTwice.span.from c.in-RoleTwice.word c.shown_word-in-RoleTwice.result
-    (inr (inr (inl (f.0, narration_of_bytes c.args.bytes.now c.args.tokens.now f.0 c.requires.within c.requires.lexed f.1, role_twice c.in-RoleTwice.span f.2)))) c.shown_word-in-RoleTwice.ensures
+    (inr (inr (inl (f.0, narration_of_bytes c.args.bytes.now (listed c.args.tokens.now) f.0 c.requires.within c.requires.lexed f.1, role_twice c.in-RoleTwice.span f.2)))) c.shown_word-in-RoleTwice.ensures
 
 pub returns-in-NarrationTooLarge : goal.returns-in-NarrationTooLarge
 returns-in-NarrationTooLarge c =
     let f = rw c.in-NarrationTooLarge.is at c.requires.fails in
     unread_as (RefusesNarrate c.args.bytes.now) 103 c.in-NarrationTooLarge.span.from (decimal c.in-NarrationTooLarge.count) c.shown_count.result
-    (inr (inr (inl (f.0, narration_of_bytes c.args.bytes.now c.args.tokens.now f.0 c.requires.within c.requires.lexed f.1, narration_too_large c.in-NarrationTooLarge.span c.in-NarrationTooLarge.count f.2)))) c.shown_count.ensures
+    (inr (inr (inl (f.0, narration_of_bytes c.args.bytes.now (listed c.args.tokens.now) f.0 c.requires.within c.requires.lexed f.1, narration_too_large c.in-NarrationTooLarge.span c.in-NarrationTooLarge.count f.2)))) c.shown_count.ensures

@@ -1,18 +1,4 @@
-use Rattle.std.proofs.Common.{true≢false, sym, ◌∙◌, subst}
-use Rattle.spi_narrate.specs.Views.{narration_of}
-use Rattle.spi_honest.specs.Narrated.{free_of}
-use Rattle.spi_narrator.specs.declared.answer.Refusal.TheVariants.{NotFree}
-use Rattle.spi_narrator.specs.Answers.{RefusesNarration, not_free}
-use Rattle.spi_narrator.proofs.Told.{scope_fault}
 use Rattle.spi_narrator.proofs.telling.tell.Goals as goal
 
-pub returns-in-Some : goal.returns-in-Some
-returns-in-Some c =
-    subst (λ w. RefusesNarration (narration_of c.args.n.now) (NotFree c.in-Some.word.now.span w)) (sym (c.in_ok-of.ensures ∙ c.as_str.ensures))
-    (not_free (rw c.deref-2.ensures.value at (c.in-Some.ensures (free_of (narration_of c.args.n.now)) (rw c.deref.ensures.value at c.in_ok-names.ensures))))
-
-pub returns : goal.returns
-returns c =
-    scope_fault (narration_of c.args.n.now) c.in-Err.fault _ c.in_ok-tree.ensures
-    (rw c.deref-2.ensures.value at (c.in_default.ensures (free_of (narration_of c.args.n.now)) (rw c.deref.ensures.value at c.in_ok-names.ensures)))
-    (λ m. true≢false (sym (c.is_out_of_memory.ensures.1 m) ∙ c.if-is_out_of_memory.false)) c.in-Err.ensures.fault
+pub answered-requires-clause-channels : goal.answered-requires-clause-channels
+answered-requires-clause-channels c = rw c.in-None.is at c.in_ok-cause.ensures
