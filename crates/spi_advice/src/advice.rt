@@ -10,6 +10,7 @@ use crate::tokens::{LIMIT, tokens_of};
 use spi_commands::{Afterwards, Status, Unread, read, refuse_too_many};
 use spi_explain::{Explained, explain_file};
 use spi_fault::Fault;
+use spi_lex::Tokens;
 use spi_report::Refusal;
 use spi_scope::File;
 use spi_text::Lines;
@@ -120,7 +121,8 @@ fn of_too_many(alloc: Global, style: Style) -> Result<Advice, NoMemory>
 {
     let (r, line) = refuse_too_many(alloc)?;
     let lines = Lines::of(alloc, b"")?;
-    let source = Source::new(b"", &lines, &[]);
+    let tokens = Tokens::List(&[]);
+    let source = Source::new(b"", &lines, &tokens);
     let mut page = Page::new(alloc, style);
     tell_refusal(&mut page, &source, &r);
     let rest = page.into_text()?;

@@ -11,7 +11,7 @@ ghost use Rattle.spi_advice.specs.Tracing.{Traces, EndsWith};
 
 use crate::NoMemory;
 use crate::refusing::refusal_line;
-use crate::tokens::{LIMIT, tokens_of};
+use crate::tokens::{LIMIT, list_of};
 use spi_commands::{Afterwards, Status, Unread, read, refuse_too_many};
 use spi_course::{Account, Course, Untold, course_text};
 use spi_report::{Refusal, first_unpaid, refused};
@@ -145,7 +145,7 @@ fn of_file(alloc: Global, bytes: &[u8], file: &File, chart: bool) -> Result<Trac
     requires read { IsRead bytes.now file.now }
     ensures { IfOk result (λ t. Traces bytes.now t.course t.status t.output.items) }
 {
-    let tokens = tokens_of(alloc, bytes)?;
+    let tokens = list_of(alloc, bytes)?;
     match course_text(alloc, file, &tokens, bytes, chart) {
         Ok(account) => told(alloc, account),
         Err(untold) => of_untold(alloc, bytes, file, &untold),

@@ -177,7 +177,7 @@ fn note_binder(page: &mut Page, scene: &Scene<'_>, x: u32, word: &str) {
         return;
     };
     let place = scene.case.file.process_place(binder);
-    let span = Some(binder_at(scene.case.source.tokens(), place.from, word));
+    let span = Some(binder_at(scene.case.source, place.from, word));
     page.open(Kind::Note, span);
     page.put("`");
     put_name(page, &scene.names, x);

@@ -15,5 +15,5 @@ pub struct Case<'a> {
 
 /// Where the first word of a node stands.
 pub fn node_span(case: &Case<'_>, node: u32) -> Span {
-    head_at(case.source.tokens(), case.file.process_place(node).from)
+    head_at(case.source, case.file.process_place(node).from)
 }

@@ -1,33 +1,37 @@
 // Where messages and binders stand, by the tokens of a node's form. What is found here is where carets stand, and no more.
-use spi_lex::{Kind, Mark, Reserved, Token};
+use crate::source::Source;
+use spi_lex::{Mark, Reserved, Seen, Token, Tokens, Words};
 use spi_term::{Form, Process};
 use spi_text::Span;
+
+/// How many tokens a file has at most, and how many bytes.
+const MOST: u32 = 16_777_216;
 
 /// Where a part of a message begins, by its token, and whether it is all that a tuple has from there on.
 #[derive(Clone, Copy)]
 pub struct Spot {
-    at: usize,
+    at: u32,
     is_tail: bool,
 }
 
-// What the token of this number is, where there is one.
-fn kind_at(tokens: &[Token], at: usize) -> Option<&Kind> {
+/// What the token of this number is, where there is one.
+pub fn kind_at<'a>(tokens: &'a Tokens<'_>, at: u32) -> Seen<'a> {
     match tokens.get(at) {
-        Some(token) => Some(&token.kind),
-        None => None,
+        Some(token) => token.kind,
+        None => Seen::Nothing,
     }
 }
 
-fn is_mark(tokens: &[Token], at: usize, wanted: Mark) -> bool {
+fn is_mark(tokens: &Tokens<'_>, at: u32, wanted: Mark) -> bool {
     match kind_at(tokens, at) {
-        Some(Kind::Mark(mark)) => *mark == wanted,
+        Seen::Mark(mark) => mark == wanted,
         _ => false,
     }
 }
 
-fn is_reserved(tokens: &[Token], at: usize, wanted: Reserved) -> bool {
+fn is_reserved(tokens: &Tokens<'_>, at: u32, wanted: Reserved) -> bool {
     match kind_at(tokens, at) {
-        Some(Kind::Reserved(word)) => *word == wanted,
+        Seen::Reserved(word) => word == wanted,
         _ => false,
     }
 }
@@ -62,12 +66,12 @@ fn closes(mark: Mark) -> bool {
 }
 
 // How deep it is behind a token.
-fn deeper(depth: u32, token: &Token) -> u32 {
-    match &token.kind {
-        Kind::Mark(mark) => {
-            if opens(*mark) {
+fn deeper(depth: u32, kind: Seen<'_>) -> u32 {
+    match kind {
+        Seen::Mark(mark) => {
+            if opens(mark) {
                 depth.saturating_add(1)
-            } else if closes(*mark) {
+            } else if closes(mark) {
                 depth.saturating_sub(1)
             } else {
                 depth
@@ -77,40 +81,71 @@ fn deeper(depth: u32, token: &Token) -> u32 {
     }
 }
 
-// The token that closes what this one opens.
-fn closing(tokens: &[Token], at: usize) -> usize {
+// How many tokens further the one stands that closes what the first of these opens.
+fn closing_in_list(list: &[Token]) -> u32 {
     let mut depth = 0;
-    for (i, token) in tokens.iter().enumerate().skip(at) {
-        depth = deeper(depth, token);
+    let mut further: u32 = 0;
+    for token in list {
+        depth = deeper(depth, Seen::of(&token.kind));
+        if depth == 0 {
+            return further;
+        }
+        further = further.saturating_add(1);
+    }
+    further
+}
+
+// The same, of tokens that come from a text.
+fn closing_in_text(start: Words<'_>) -> u32 {
+    let mut words = start;
+    let mut depth = 0;
+    for i in 0..MOST {
+        depth = deeper(depth, words.kind);
         if depth == 0 {
             return i;
         }
+        match words.kind {
+            Seen::Nothing => return i,
+            _ => words.advance(),
+        }
     }
-    tokens.len()
+    MOST
+}
+
+// The token that closes what this one opens. It takes the tokens on the way once.
+fn closing(tokens: &Tokens<'_>, at: u32) -> u32 {
+    match tokens {
+        Tokens::List(list) => match list.get(at as usize..) {
+            Some(rest) => at.saturating_add(closing_in_list(rest)),
+            None => at,
+        },
+        Tokens::Text(text) => at.saturating_add(closing_in_text(text.words_from(at))),
+    }
 }
 
 /// The token behind the message that begins at this one.
-pub fn message_end(tokens: &[Token], at: usize) -> usize {
+pub fn message_end(tokens: &Tokens<'_>, at: u32) -> u32 {
     let mut at = at;
-    for _ in 0..tokens.len() {
-        if is_mark(tokens, at, Mark::BraceOpen) {
-            at = closing(tokens, at).saturating_add(1);
-        } else if is_mark(tokens, at, Mark::ParenOpen) {
-            return closing(tokens, at).saturating_add(1);
-        } else if is_reserved(tokens, at, Reserved::Inl)
-            || is_reserved(tokens, at, Reserved::Inr)
-            || is_reserved(tokens, at, Reserved::Hash)
-        {
-            at = at.saturating_add(1);
-        } else {
-            return at.saturating_add(1);
+    for _ in 0..MOST {
+        match kind_at(tokens, at) {
+            Seen::Mark(Mark::BraceOpen) => at = closing(tokens, at).saturating_add(1),
+            Seen::Mark(Mark::ParenOpen) => return closing(tokens, at).saturating_add(1),
+            Seen::Reserved(Reserved::Inl | Reserved::Inr | Reserved::Hash) => {
+                at = at.saturating_add(1);
+            }
+            _ => return at.saturating_add(1),
         }
     }
     at
 }
 
+// The spot of a part that begins here, and of nothing behind it.
+fn lone(at: u32) -> Spot {
+    Spot { at, is_tail: false }
+}
+
 // The spot of a tuple's part that begins here, with those behind it.
-fn tail(tokens: &[Token], at: usize) -> Spot {
+fn tail(tokens: &Tokens<'_>, at: u32) -> Spot {
     Spot {
         at,
         is_tail: is_mark(tokens, message_end(tokens, at), Mark::Comma),
@@ -118,49 +153,31 @@ fn tail(tokens: &[Token], at: usize) -> Spot {
 }
 
 // The second of two parts, of which the first begins here.
-fn second(tokens: &[Token], at: usize) -> Spot {
+fn second(tokens: &Tokens<'_>, at: u32) -> Spot {
     tail(tokens, message_end(tokens, at).saturating_add(1))
 }
 
 // Part number `step` of what stands at the spot.
-fn part_of(tokens: &[Token], spot: Spot, step: u32) -> Spot {
+fn part_of(tokens: &Tokens<'_>, spot: Spot, step: u32) -> Spot {
     let Spot { at, is_tail } = spot;
     let inside = at.saturating_add(1);
     if is_tail {
-        if step == 0 {
-            Spot { at, is_tail: false }
+        return if step == 0 {
+            lone(at)
         } else {
             second(tokens, at)
-        }
-    } else if is_mark(tokens, at, Mark::ParenOpen) {
-        if step == 0 {
-            Spot {
-                at: inside,
-                is_tail: false,
-            }
-        } else {
-            second(tokens, inside)
-        }
-    } else if is_mark(tokens, at, Mark::BraceOpen) && step == 0 {
-        Spot {
-            at: closing(tokens, at).saturating_add(1),
-            is_tail: false,
-        }
-    } else if is_reserved(tokens, at, Reserved::Hash) {
-        Spot {
-            at: inside.saturating_add(1),
-            is_tail: false,
-        }
-    } else {
-        Spot {
-            at: inside,
-            is_tail: false,
-        }
+        };
+    }
+    match kind_at(tokens, at) {
+        Seen::Mark(Mark::ParenOpen) if step != 0 => second(tokens, inside),
+        Seen::Mark(Mark::BraceOpen) if step == 0 => lone(closing(tokens, at).saturating_add(1)),
+        Seen::Reserved(Reserved::Hash) => lone(inside.saturating_add(1)),
+        _ => lone(inside),
     }
 }
 
 /// The part of what stands at the spot at the end of these steps, of which the last comes first.
-pub fn part_at(tokens: &[Token], spot: Spot, steps: &[u32]) -> Spot {
+pub fn part_at(tokens: &Tokens<'_>, spot: Spot, steps: &[u32]) -> Spot {
     let mut spot = spot;
     for step in steps.iter().rev() {
         spot = part_of(tokens, spot, *step);
@@ -169,10 +186,10 @@ pub fn part_at(tokens: &[Token], spot: Spot, steps: &[u32]) -> Spot {
 }
 
 // Where the message ends that stands at the spot.
-fn end_of(tokens: &[Token], spot: Spot) -> usize {
+fn end_of(tokens: &Tokens<'_>, spot: Spot) -> u32 {
     let mut end = message_end(tokens, spot.at);
     if spot.is_tail {
-        for _ in 0..tokens.len() {
+        for _ in 0..MOST {
             if !is_mark(tokens, end, Mark::Comma) {
                 return end;
             }
@@ -183,7 +200,7 @@ fn end_of(tokens: &[Token], spot: Spot) -> usize {
 }
 
 /// Where what stands at the spot begins and ends in the file.
-pub fn span_of(tokens: &[Token], spot: Spot) -> Option<Span> {
+pub fn span_of(tokens: &Tokens<'_>, spot: Spot) -> Option<Span> {
     let first = tokens.get(spot.at)?;
     let last = tokens.get(end_of(tokens, spot).saturating_sub(1))?;
     Some(Span {
@@ -192,7 +209,7 @@ pub fn span_of(tokens: &[Token], spot: Spot) -> Option<Span> {
     })
 }
 
-fn begins_before(tokens: &[Token], at: usize, offset: u32) -> bool {
+fn begins_before(tokens: &Tokens<'_>, at: u32, offset: u32) -> bool {
     match tokens.get(at) {
         Some(token) => token.span.from < offset,
         None => false,
@@ -200,9 +217,9 @@ fn begins_before(tokens: &[Token], at: usize, offset: u32) -> bool {
 }
 
 /// The token that begins at this offset, or the next one. It searches by halves.
-pub fn token_at(tokens: &[Token], offset: u32) -> usize {
-    let mut low: usize = 0;
-    let mut high = tokens.len();
+pub fn token_at(tokens: &Tokens<'_>, offset: u32) -> u32 {
+    let mut low: u32 = 0;
+    let mut high = MOST;
     for _ in 0..32 {
         let middle = low.saturating_add(high.saturating_sub(low) / 2);
         if low < high {
@@ -217,63 +234,68 @@ pub fn token_at(tokens: &[Token], offset: u32) -> usize {
 }
 
 /// The mark in front of a token that opens what isn't closed there, by its token.
-pub fn opener(tokens: &[Token], at: usize) -> Option<usize> {
+pub fn opener(tokens: &Tokens<'_>, at: u32) -> Option<u32> {
     let mut depth: u32 = 0;
-    for (i, token) in tokens.iter().enumerate().rev() {
-        if i < at {
-            if let Kind::Mark(mark) = &token.kind {
-                if closes(*mark) {
-                    depth = depth.saturating_add(1);
-                } else if opens(*mark) {
-                    if depth == 0 {
-                        return Some(i);
-                    }
-                    depth = depth.saturating_sub(1);
+    for i in (0..at).rev() {
+        if let Seen::Mark(mark) = kind_at(tokens, i) {
+            if closes(mark) {
+                depth = depth.saturating_add(1);
+            } else if opens(mark) {
+                if depth == 0 {
+                    return Some(i);
                 }
+                depth = depth.saturating_sub(1);
             }
         }
     }
     None
 }
 
-/// Where the first word of a form stands that begins at this offset.
-pub fn head_at(tokens: &[Token], offset: u32) -> Span {
-    match tokens.get(token_at(tokens, offset)) {
-        Some(token) => token.span,
-        None => Span {
-            from: offset,
-            to: offset,
+/// Where the first word of a form stands that begins at this offset. It looks at no other token, so that each of many forms
+/// costs no more than its first word.
+pub fn head_at(source: &Source<'_>, offset: u32) -> Span {
+    let text = source.text_from(offset);
+    let nothing = Span {
+        from: offset,
+        to: offset,
+    };
+    if (offset as usize).saturating_add(text.len()) > MOST as usize {
+        return nothing;
+    }
+    let words = Words::behind(text, offset, false);
+    match words.kind {
+        Seen::Nothing => nothing,
+        _ => Span {
+            from: words.from,
+            to: words.to,
         },
     }
 }
 
 // The next token that is this mark, from one on.
-fn next_mark(tokens: &[Token], from: usize, wanted: Mark) -> usize {
-    let mut at = from;
-    for _ in from..tokens.len() {
-        if is_mark(tokens, at, wanted) {
-            return at;
+fn next_mark(tokens: &Tokens<'_>, from: u32, wanted: Mark) -> u32 {
+    for at in from..MOST {
+        match kind_at(tokens, at) {
+            Seen::Nothing => return at,
+            Seen::Mark(mark) if mark == wanted => return at,
+            _ => {}
         }
-        at = at.saturating_add(1);
     }
-    at
+    MOST
 }
 
 /// The first message of a form, which begins at this token.
-pub fn first_message(tokens: &[Token], head: usize) -> Spot {
+pub fn first_message(tokens: &Tokens<'_>, head: u32) -> Spot {
     let skipped = if is_reserved(tokens, head, Reserved::Repeat) {
         2
     } else {
         1
     };
-    Spot {
-        at: head.saturating_add(skipped),
-        is_tail: false,
-    }
+    lone(head.saturating_add(skipped))
 }
 
 /// The second message of a form.
-pub fn second_message(tokens: &[Token], head: usize, form: &Form) -> Spot {
+pub fn second_message(tokens: &Tokens<'_>, head: u32, form: &Form) -> Spot {
     let behind = message_end(tokens, head.saturating_add(1));
     let at = match form {
         Form::Check { .. } => behind.saturating_add(1),
@@ -281,25 +303,28 @@ pub fn second_message(tokens: &[Token], head: usize, form: &Form) -> Spot {
         Form::Decrypt { .. } => closing(tokens, behind.saturating_add(1)).saturating_add(1),
         _ => behind,
     };
-    Spot { at, is_tail: false }
+    lone(at)
 }
 
-fn is_word(tokens: &[Token], at: usize, word: &str) -> bool {
-    match kind_at(tokens, at) {
-        Some(Kind::Word(text)) => text.as_str() == word,
+fn is_word(kind: Seen<'_>, word: &str) -> bool {
+    match kind {
+        Seen::Word(text) => text == word,
         _ => false,
     }
 }
 
 /// Where a form that begins at this offset binds a name of this spelling: its first word with a colon behind it.
-pub fn binder_at(tokens: &[Token], offset: u32, word: &str) -> Span {
-    let head = token_at(tokens, offset);
-    for (i, token) in tokens.iter().enumerate().skip(head) {
-        if is_word(tokens, i, word) && is_mark(tokens, i.saturating_add(1), Mark::Colon) {
+pub fn binder_at(source: &Source<'_>, offset: u32, word: &str) -> Span {
+    let tokens = source.tokens();
+    for i in token_at(tokens, offset)..MOST {
+        let Some(token) = tokens.get(i) else {
+            return head_at(source, offset);
+        };
+        if is_word(token.kind, word) && is_mark(tokens, i.saturating_add(1), Mark::Colon) {
             return token.span;
         }
     }
-    head_at(tokens, offset)
+    head_at(source, offset)
 }
 
 /// The node that binds the name with this number, as it is seen from a node below: the last one in front with so few names

@@ -1,4 +1,5 @@
 // The text of a refusal: what is wrong, where, and what usually mends it.
+use crate::find::token_at;
 use crate::page::{Kind, Page};
 use crate::source::{Source, text_at};
 use crate::syntax::tell_syntax;
@@ -84,13 +85,10 @@ fn words(number: u32) -> (&'static str, &'static str) {
 
 /// The span of a word or character that begins at this offset.
 fn span_at(source: &Source<'_>, offset: u32) -> Span {
-    let to = match source
-        .tokens()
-        .iter()
-        .find(|token| token.span.from == offset)
-    {
-        Some(token) => token.span.to,
-        None => offset.saturating_add(1),
+    let tokens = source.tokens();
+    let to = match tokens.get(token_at(tokens, offset)) {
+        Some(token) if token.span.from == offset => token.span.to,
+        _ => offset.saturating_add(1),
     };
     Span { from: offset, to }
 }

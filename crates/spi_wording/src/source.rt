@@ -2,7 +2,7 @@
 ghost use Rattle.std.specs.Prelude.{◌≡◌};
 
 use crate::page::Page;
-use spi_lex::Token;
+use spi_lex::Tokens;
 use spi_text::{Lines, Place, Span};
 use std::marker::Model;
 use std::str;
@@ -14,12 +14,14 @@ const NEAR: usize = 120;
 /// How many columns a tab takes.
 const TAB: usize = 4;
 
-/// The bytes of a file, their lines, and their tokens where it has any. A contract sees the bytes.
+/// The bytes of a file, their text where they are UTF-8, their lines, and their tokens where it has any. A contract sees the
+/// bytes.
 #[derive(Drop)]
 pub struct Source<'a> {
     bytes: &'a [u8],
+    text: &'a str,
     lines: &'a Lines<'a>,
-    tokens: &'a [Token],
+    tokens: &'a Tokens<'a>,
 }
 
 impl<'a> Model for Source<'a> {
@@ -34,19 +36,32 @@ impl<'a> Model for Source<'a> {
 
 impl<'a> Source<'a> {
     /// The source of these bytes, which have these lines and tokens.
-    pub fn new(bytes: &'a [u8], lines: &'a Lines<'a>, tokens: &'a [Token]) -> Source<'a>
+    pub fn new(bytes: &'a [u8], lines: &'a Lines<'a>, tokens: &'a Tokens<'a>) -> Source<'a>
         requires { lines.now ≡ bytes.now }
     {
+        let text = match str::from_utf8(bytes) {
+            Ok(text) => text,
+            Err(_) => "",
+        };
         Source {
             bytes,
+            text,
             lines,
             tokens,
         }
     }
 
     /// The tokens, or none.
-    pub fn tokens(&self) -> &'a [Token] {
+    pub fn tokens(&self) -> &'a Tokens<'a> {
         self.tokens
+    }
+
+    /// The text from an offset on: nothing where no character begins there.
+    pub fn text_from(&self, offset: u32) -> &'a str {
+        match self.text.split_at_checked(offset as usize) {
+            Some((_, rest)) => rest,
+            None => "",
+        }
     }
 
     /// The file begins with a byte order mark.

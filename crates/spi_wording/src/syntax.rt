@@ -1,8 +1,8 @@
 // The text of a file that is wrong by its syntax: the token that is there, and what it usually comes from.
-use crate::find::{begins_process, opener, token_at};
+use crate::find::{begins_process, kind_at, opener, token_at};
 use crate::page::{Kind, Page};
 use crate::source::{Source, text_at};
-use spi_lex::{Kind as TokenKind, Mark, Reserved, Token, is_version_2};
+use spi_lex::{Mark, Reserved, Seen as TokenKind, Tokens};
 use spi_text::Span;
 
 // What stands at a place of the tokens.
@@ -15,35 +15,43 @@ enum Seen {
     Number,
 }
 
-fn seen_at(tokens: &[Token], at: usize) -> Seen {
-    match tokens.get(at) {
-        None => Seen::Nothing,
-        Some(token) => match &token.kind {
-            TokenKind::Word(_) => Seen::Word,
-            TokenKind::Reserved(word) => Seen::Reserved(*word),
-            TokenKind::Number(_) => Seen::Number,
-            TokenKind::Mark(mark) => Seen::Mark(*mark),
-        },
+fn seen_at(tokens: &Tokens<'_>, at: u32) -> Seen {
+    match kind_at(tokens, at) {
+        TokenKind::Nothing => Seen::Nothing,
+        TokenKind::Word(_) => Seen::Word,
+        TokenKind::Reserved(word) => Seen::Reserved(word),
+        TokenKind::Number(_) => Seen::Number,
+        TokenKind::Mark(mark) => Seen::Mark(mark),
     }
 }
 
-// The last token in front that begins a process, behind `repeat` where that stands there, and how it begins.
-fn last_form(tokens: &[Token]) -> Option<Reserved> {
-    for token in tokens.iter().rev() {
-        if let TokenKind::Reserved(word) = &token.kind {
-            if *word != Reserved::Repeat && begins_process(*word) {
-                return Some(*word);
+// The last token in front of this one that begins a process, behind `repeat` where that stands there, and how it begins.
+fn last_form(tokens: &Tokens<'_>, at: u32) -> Option<Reserved> {
+    for i in (0..at).rev() {
+        if let TokenKind::Reserved(word) = kind_at(tokens, i) {
+            if word != Reserved::Repeat && begins_process(word) {
+                return Some(word);
             }
         }
     }
     None
 }
 
+// The file begins with `version 2;`.
+fn is_version_2(tokens: &Tokens<'_>) -> bool {
+    match (kind_at(tokens, 0), kind_at(tokens, 1), kind_at(tokens, 2)) {
+        (TokenKind::Word(word), TokenKind::Number(2), TokenKind::Mark(Mark::Semicolon)) => {
+            word == "version"
+        }
+        _ => false,
+    }
+}
+
 fn is_new_word(word: &str) -> bool {
     word == "hash" || word == "endmany" || word == "many"
 }
 
-fn has_new_word(source: &Source<'_>, at: usize) -> bool {
+fn has_new_word(source: &Source<'_>, at: u32) -> bool {
     match source.tokens().get(at) {
         Some(token) => is_new_word(text_at(source, token.span)),
         None => false,
@@ -51,7 +59,7 @@ fn has_new_word(source: &Source<'_>, at: usize) -> bool {
 }
 
 // The token, or one of the two in front of it, is a word of version 2, and the file is of version 1.
-fn is_of_version_2(source: &Source<'_>, at: usize) -> bool {
+fn is_of_version_2(source: &Source<'_>, at: u32) -> bool {
     if is_version_2(source.tokens()) {
         return false;
     }
@@ -109,7 +117,7 @@ fn missing(open: Seen, here: Seen) -> Option<&'static str> {
 }
 
 // The note on what isn't closed.
-fn note_open(page: &mut Page, source: &Source<'_>, at: usize) -> bool {
+fn note_open(page: &mut Page, source: &Source<'_>, at: u32) -> bool {
     let Some(open) = opener(source.tokens(), at) else {
         return false;
     };
@@ -128,16 +136,12 @@ fn note_open(page: &mut Page, source: &Source<'_>, at: usize) -> bool {
 }
 
 // What it usually comes from.
-fn help(source: &Source<'_>, at: usize) -> &'static str {
+fn help(source: &Source<'_>, at: u32) -> &'static str {
     let tokens = source.tokens();
     let here = seen_at(tokens, at);
     let before = seen_at(tokens, at.saturating_sub(1));
     let next = seen_at(tokens, at.saturating_add(1));
-    let front = match tokens.get(..at) {
-        Some(front) => front,
-        None => tokens,
-    };
-    let form = last_form(front);
+    let form = last_form(tokens, at);
     let ends = here == Seen::Nothing
         || here == Seen::Mark(Mark::Bar)
         || here == Seen::Mark(Mark::ParenClose)

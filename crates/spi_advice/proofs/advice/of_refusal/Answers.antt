@@ -8,4 +8,4 @@ refusal_line-requires c = rw c.in_ok-lines.ensures c.requires.refuses
 pub returns : goal.returns
 returns c =
     let line = rw c.in_ok-lines.ensures at c.in_ok-line.ensures in
-    advised c.args.bytes.now c.in_ok-line.line.items c.deref-2.result.now Refused c.joined.result line c.joined.ensures
+    advised c.args.bytes.now c.in_ok-line.line.items c.deref.result.now Refused c.joined.result line c.joined.ensures
