@@ -8,6 +8,9 @@ use crate::source::Source;
 use spi_expected::expected_in;
 use spi_lex::{Kind as TokenKind, Mark, Reserved};
 
+/// How many bytes a file has at most of which it is told: each kind of token is tried by a reading of all that stands before.
+const MOST: usize = 65_536;
+
 fn has_word(kinds: &[TokenKind], wanted: Reserved) -> bool {
     kinds.iter().any(|kind| match kind {
         TokenKind::Reserved(word) => *word == wanted,
@@ -85,10 +88,13 @@ fn put_kinds(page: &mut Page, kinds: &[TokenKind]) {
     }
 }
 
-/// What could stand where the syntax of these bytes breaks off.
+/// What could stand where the syntax of these bytes breaks off. Nothing is told of a file of more than 65,536 bytes.
 pub fn tell_expected(page: &mut Page, source: &Source<'_>, bytes: &[u8]) -> Result<(), NoMemory>
     requires { length bytes.now ≤ 16_777_216 }
 {
+    if bytes.len() > MOST {
+        return Ok(());
+    }
     if let Some(kinds) = expected_in(page.alloc(), bytes)? {
         page.open(Kind::Note, None);
         if kinds.is_empty() {
