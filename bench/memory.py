@@ -3,11 +3,12 @@
 
 Each file but the first has some 16 million bytes of one form over and over: what a stranger may send. Files are checked,
 narrations told and benches judged, and one file is printed. Usage:
-bench/memory.py [--program FILE] [--only WORD] [--most BYTES]. Without --program it takes the proved object
-crates/cryptyc/out/cryptyc.o and links it statically, as a package does; a program that is linked otherwise takes half a
-megabyte more, for the loader and the whole C library. It prints a row of a Markdown table for each file: its bytes, the most
-memory that the program took at a time, and that for each byte of the file. The status is 1 where a large file takes more than
---most bytes a byte. It needs gcc; the memory is that which Linux tells (`ru_maxrss`)."""
+bench/memory.py [--program FILE] [--explain FILE] [--only WORD] [--most BYTES]. With --explain it is the program FILE that is
+measured, `cryptyc_explain`, on the files and on some that break off at their end. Without --program it takes the proved
+object crates/cryptyc/out/cryptyc.o and links it statically, as a package does; a program that is linked otherwise takes half
+a megabyte more, for the loader and the whole C library. It prints a row of a Markdown table for each file: its bytes, the
+most memory that the program took at a time, and that for each byte of the file. The status is 1 where a large file takes
+more than --most bytes a byte. It needs gcc; the memory is that which Linux tells (`ru_maxrss`)."""
 
 import argparse
 import os
@@ -144,7 +145,11 @@ BENCHES = {
 
 PRINTED = {"uses of a rule with one premise, printed": (lambda: FILES["uses of a rule with one premise"][0](), 0)}
 
+BROKEN = {f"{name}, and a fault behind it": (lambda name=name: FILES[name][0]() + "(", 2)
+          for name in ("one tuple of names", "pairs in pairs", "one declaration of names")}
+
 ALL = [("check", FILES), ("narrate", NARRATIONS), ("bench", BENCHES), ("print", PRINTED)]
+EXPLAINED = [("explain", FILES), ("explain", BROKEN)]
 
 
 def linked(room):
@@ -174,15 +179,17 @@ def measured(room, program, command, name, text, wanted):
 def main():
     parser = argparse.ArgumentParser(description=__doc__, formatter_class=argparse.RawDescriptionHelpFormatter)
     parser.add_argument("--program")
+    parser.add_argument("--explain")
     parser.add_argument("--only", default="")
     parser.add_argument("--most", type=float, default=20)
     given = parser.parse_args()
     over_most = False
     with tempfile.TemporaryDirectory() as room:
-        program = os.path.abspath(given.program) if given.program else linked(room)
+        named = given.explain or given.program
+        program = os.path.abspath(named) if named else linked(room)
         subprocess.run(["gcc", "-O1", "-static", "-o", f"{room}/peak", f"{ROOT}/bench/peak.c"], check=True)
         print("| File | Command | Bytes | Memory | Bytes a byte of the file |\n|---|---|---|---|---|")
-        for command, files in ALL:
+        for command, files in EXPLAINED if given.explain else ALL:
             for name, (made, wanted) in files.items():
                 if given.only in name:
                     over_most |= measured(room, program, command, name, made(), wanted) > given.most
