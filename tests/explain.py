@@ -172,6 +172,9 @@ def main():
                        ("tabs and wide letters", "free a;\tprocess new (密: Key(Un));\tout 密 a".encode())]:
         text, status = run(explain, [], data)
         tests.hold(name, (text[: text.find(b"\n") + 1], status) == run(check, ["check"], data))
+    for size in (65_536, 65_537):
+        text, status = run(explain, [], b"process stop )".ljust(size))
+        tests.hold(f"what could stand in {size} bytes", status == 2 and (b"here could stand: " in text) == (size == 65_536))
     print(f"{tests.passed} passed, {tests.failed} failed")
     return tests.failed != 0
 
